@@ -28,8 +28,8 @@
  *     PROVED_ARGON2_WRONG_BLOCKS  if the memory, a slice or a segment has more or fewer blocks
  *     PROVED_ARGON2_WRONG_LENGTH  if a tag has another length
  *
- * After each of these errors the outputs are unchanged. No call can check that the blocks exist, or that no other
- * thread writes to them meanwhile.
+ * Errors of settings and encoded hashes come right after PROVED_ARGON2_MISALIGNED. After each of these errors the
+ * outputs are unchanged. No call can check that the blocks exist, or that no other thread writes to them meanwhile.
  *
  * Each call that computes overwrites the stack below it before it returns and, if compiled by GCC 11, clang 15 or
  * newer, the registers that it may change. The caller has to clear the memory that it provided. The job contains H0:

@@ -16,22 +16,22 @@ abbrev pub padded : ℕ → List ℕ → List ℕ
 padded len text = text ++ replicate (len - length text) 0
 
 -- ---- what the calls return. The definitions take the configuration of the settings, or the error of their numbers,
--- and are made of the words of the library's own contract
+-- and use the definitions of the library's own contract
 
 -- ---- errors
 
--- the library's error with all as it was, where there is one; else what is done
+-- a library error is returned, and nothing changes; without one, Done is true
 abbrev pub OrError : {A : Type 0} → Option Error → A → A → Result (Unit {0}) CallError → Type 0 → Type 0
 OrError (Some e) old new answer Done = (answer ≡ Err (Library e)) × (new ≡ old)
 OrError None old new answer Done = Done
 
--- a string that is not ASCII or decodes to nothing is rejected with all as it was; else what is done with what it decodes to
+-- a string that is not ASCII or decodes to nothing is rejected, and nothing changes; else Done of the decoded value
 pub record OfText {A : Type 0} (text : List ℕ) (old new : A) (answer : Result (Unit {0}) CallError) (Done : Spelled → Type 0) : Type 0 where
   pub not_ascii : (IsAscii text → ⊥) → (answer ≡ Err NotAscii) × (new ≡ old)
   pub unspelled : IsAscii text → SpellsNothing text → (answer ≡ Err (Library DecodingFail)) × (new ≡ old)
   pub spelled : IsAscii text → (d : Spelled) → Spells text d → Done d
 
--- what is made, where the buffers have the lengths for it; else they are as they were
+-- what is made is written if the buffers fit; else they are as they were
 pub record WritesWhere {A : Type 0} (Fit : Type 0) (made old new : A) (answer : Result (Unit {0}) CallError) : Type 0 where
   pub wrong_length : (Fit → ⊥) → (answer ≡ Err WrongLength) × (new ≡ old)
   pub written : Fit → (answer ≡ Ok tt) × (new ≡ made)

@@ -31,7 +31,7 @@ pub record BlocksAndTag : Type 0 where
   pub blocks : List (List ℕ)
   pub tag : List ℕ
 
--- the tag, over just so many blocks and in a buffer of just len bytes
+-- the tag, over exactly so many blocks, in a buffer of len bytes
 pub record HashesInto (blocks len : ℕ) (tag : List ℕ) (old new : BlocksAndTag) (answer : Result (Unit {0}) CallError) : Type 0 where
   pub wrong_blocks : (length old.blocks ≡ blocks → ⊥) → (answer ≡ Err WrongBlocks) × (new ≡ old)
   pub wrong_length : length old.blocks ≡ blocks → (length old.tag ≡ len → ⊥) → (answer ≡ Err WrongLength) × (new ≡ old)
@@ -51,7 +51,7 @@ HashesJob (Some s) len old new answer = HashesInto (memory_blocks s) len (tag_fr
 
 -- ---- verifying
 
--- whether a hash is the tag, which is in a buffer of its length then
+-- whether a hash is the tag, which is then in the `tag` buffer
 pub record JudgesInto (blocks len : ℕ) (tag hash : List ℕ) (old new : BlocksAndTag) (answer : Result (Unit {0}) CallError) : Type 0 where
   pub wrong_blocks : (length old.blocks ≡ blocks → ⊥) → (answer ≡ Err WrongBlocks) × (new ≡ old)
   pub wrong_length : length old.blocks ≡ blocks → ((length hash ≡ len) × (length old.tag ≡ len) → ⊥) → (answer ≡ Err WrongLength) × (new ≡ old)

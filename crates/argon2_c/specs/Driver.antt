@@ -47,7 +47,7 @@ work_of job tasks has_pool =
       Fills = FillsSegment job;
     }
 
--- the caller's thread has left all steps, over four slices of the job's length
+-- the caller's thread has completed all steps, over four slices of the job's length
 pub record IsFilled (job : CallerJob) (tasks : ℕ) (has_pool : Bool) (s : Team (work_of job tasks has_pool)) : Type 0 where
   pub some : 0 < tasks
   pub reached : IsReached (work_of job tasks has_pool) s
@@ -55,13 +55,13 @@ pub record IsFilled (job : CallerJob) (tasks : ℕ) (has_pool : Bool) (s : Team 
   pub long : (k : ℕ) → k < 4 → length (slice_at (s.before 0) k) ≡ job.lanes * job.segment_length
   pub all : s.step ≡ suc (4 * job.passes)
 
--- For any number of lanes, workers and threads, and for any order of their moves: what is finished then is the tag.
+-- For any number of lanes, workers and threads, and any order of their moves, `finish` then writes the tag.
 abbrev pub EveryTeamGivesTheTag : Type 0
 EveryTeamGivesTheTag = (pwd salt : List ℕ) (config : Config) (len : ℕ) (job : CallerJob) (tasks : ℕ) (has_pool : Bool)
     (s : Team (work_of job tasks has_pool)) → IsMade pwd salt config len job → IsFilled job tasks has_pool s
     → (old new : List ℕ) → Finishes (setting_of_job job) job.hash_length (slice_at s.memory 3) old new (Ok tt) → new ≡ tag_of pwd salt config len
 
--- What is verified then is whether a hash is the tag.
+-- `verify` then says whether a hash is the tag.
 abbrev pub EveryTeamGivesTheVerdict : Type 0
 EveryTeamGivesTheVerdict = (pwd salt : List ℕ) (config : Config) (len : ℕ) (job : CallerJob) (tasks : ℕ) (has_pool : Bool)
     (s : Team (work_of job tasks has_pool)) → IsMade pwd salt config len job → IsFilled job tasks has_pool s → (hash old new : List ℕ)
@@ -76,8 +76,8 @@ NoThreadWorksAfterTheEnd = (job : CallerJob) (tasks : ℕ) (has_pool : Bool) →
 abbrev pub EveryPoolRanEachTaskOnce : Type 0
 EveryPoolRanEachTaskOnce = (job : CallerJob) (tasks : ℕ) (has_pool : Bool) → 0 < tasks → EachTaskRanOnce (work_of job tasks has_pool)
 
--- In the finer model: the threads make moves of a team. Until the call has returned, some thread can go on, and no run is
--- infinite, but for the writes inside a proved call. When the call has returned, all other threads have ended.
+-- In the finer model: the threads make moves of a team. Until the call has returned, some thread can go on, and no run
+-- is infinite unless a proved call writes for ever. When the call has returned, all other threads have ended.
 abbrev pub EveryCallReturns : Type 0
 EveryCallReturns = (job : CallerJob) (tasks members : ℕ) (is_long : Bool) → 0 < tasks → record {
   team : ThreadsAreATeam (work_of job tasks false) members is_long;

@@ -33,9 +33,9 @@ abbrev pub FillsLane : CallerJob → ℕ → ℕ → List (List (List ℕ)) → 
 FillsLane job n lane slices old new = let beside = remove slices (n % 4) in
     Fills (setting_of_job job) (n / 4) (n % 4) lane (slice_at beside 0) (slice_at beside 1) (slice_at beside 2) old new (Ok tt)
 
--- the four slices before slice number n, counted over all passes, for each n; and that each step answered 0. A
--- lane's step is told by its own segment and the three other slices, which no step writes meanwhile: so the order
--- of a slice's lanes is not said
+-- the four slices before slice number n, counted over all passes, for each n; each step returned 0. A lane's step
+-- depends only on its own segment and the three other slices, which no step writes meanwhile, so nothing is said of
+-- the order of a slice's lanes
 pub record IsRun (job : CallerJob) (slices : ℕ → List (List (List ℕ))) : Type 0 where
   pub four : (n : ℕ) → length (slices n) ≡ 4
   pub long : (k : ℕ) → k < 4 → length (slice_at (slices 0) k) ≡ job.lanes * job.segment_length
@@ -75,14 +75,14 @@ EveryOrderOfTurnsIsARun = (job : CallerJob) (start : List (List (List ℕ))) (sl
 
 -- ---- what runs give
 
--- what is finished then is the tag
+-- `finish` then writes the tag
 abbrev pub EveryRunGivesTheTag : Type 0
 EveryRunGivesTheTag = (pwd salt : List ℕ) (config : Config) (len : ℕ) (job : CallerJob) (slices : ℕ → List (List (List ℕ)))
     → IsMade pwd salt config len job → IsRun job slices
     → (old new : List ℕ) → Finishes (setting_of_job job) job.hash_length (slice_at (slices (4 * job.passes)) 3) old new (Ok tt)
     → new ≡ tag_of pwd salt config len
 
--- and what is verified is whether a hash is the tag
+-- and `verify` says whether a hash is the tag
 abbrev pub EveryRunGivesTheVerdict : Type 0
 EveryRunGivesTheVerdict = (pwd salt : List ℕ) (config : Config) (len : ℕ) (job : CallerJob) (slices : ℕ → List (List (List ℕ)))
     → IsMade pwd salt config len job → IsRun job slices

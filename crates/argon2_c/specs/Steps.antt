@@ -66,7 +66,7 @@ abbrev pub Finishes : Option Setting → ℕ → List (List ℕ) → List ℕ �
 Finishes None len last old new answer = (answer ≡ Err NoJob) × (new ≡ old)
 Finishes (Some s) len last old new answer = FinishesAt s len last old new answer
 
--- whether a hash is the tag, which is in a buffer of its length then
+-- whether a hash is the tag, which is then in the buffer
 pub record VerifiesAt (s : Setting) (len : ℕ) (last : List (List ℕ)) (hash old new : List ℕ) (answer : Result (Unit {0}) CallError) : Type 0 where
   pub wrong_blocks : (IsSlice s last → ⊥) → (answer ≡ Err WrongBlocks) × (new ≡ old)
   pub wrong_length : IsSlice s last → ((length hash ≡ len) × (length old ≡ len) → ⊥) → (answer ≡ Err WrongLength) × (new ≡ old)

@@ -89,11 +89,11 @@ pub record CanAdvance (w : Work) (s : Team w) : Type 0 where
   pub ok : (i : ℕ) → i < w.tasks → s.code i ≡ 0
   pub right : s.is_astray ≡ false
 
--- No task is being run: a pool runs none after it has returned.
+-- No task is running. We assume that pools run none after returning.
 abbrev pub IsPoolIdle : (w : Work) → Team w → Type 0
 IsPoolIdle w s = (w.has_pool ≡ true) × ((i : ℕ) → i < w.tasks → s.state i ≢ 2 * s.step + 1)
 
--- The caller's thread stops after the last step, after any other whole one, or after a pool returned.
+-- The caller's thread stops after the last step, when all workers are through, or after a pool returned.
 pub record CanStop (w : Work) (s : Team w) : Type 0 where
   pub goes_on : s.is_over ≡ false
   pub why : (s.step ≡ w.steps) ⊎ AreThrough w s ⊎ IsPoolIdle w s
@@ -165,12 +165,12 @@ pub data IsReached (w : Work) : Team w → Type 0 where
   starts : (s : Team w) → IsStart w s → IsReached w s
   moves : (s t : Team w) (m : Move w) → IsReached w s → Can w s m → t ≡ after w s m → IsReached w t
 
--- A whole step: it filled each lane's segment once, from what it found there and beside what it found elsewhere.
+-- A whole step: it filled each lane's segment once, from the memory that it found at its beginning.
 pub record IsStep (w : Work) (n : ℕ) (before after : w.Memory) : Type 0 where
   pub keeps : w.Keeps n before after
   pub fills : (l : ℕ) → l < w.lanes → w.Fills n l before (w.segment n l before) (w.segment n l after)
 
--- What the theorems assume of the work: whether a segment is filled can be seen from what no segment of the step has.
+-- What the theorems assume of the work: whether a segment is filled depends on nothing in the step's other segments.
 pub record IsApart (w : Work) : Type 0 where
   pub workers : (l : ℕ) → l < w.lanes → w.worker l < w.tasks
   pub none : (n : ℕ) (m : w.Memory) → w.Keeps n m m

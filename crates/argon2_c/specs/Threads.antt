@@ -156,7 +156,7 @@ abbrev pub SomeThreadCanGoOn : (w : Work) (members : ℕ) (is_long : Bool) → T
 SomeThreadCanGoOn w members is_long =
     (s : Threads w members is_long) → IsReached w members is_long s → s.place 0 ≢ Ended → (m : Move w members is_long) × Can w members is_long s m
 
--- When it has, all others have ended.
+-- After its return, all others have ended.
 abbrev pub AllThreadsEnd : (w : Work) (members : ℕ) (is_long : Bool) → Type 0
 AllThreadsEnd w members is_long =
     (s : Threads w members is_long) → IsReached w members is_long s → s.place 0 ≡ Ended → (j : ℕ) → IsMember w members is_long j → s.place j ≡ Ended
@@ -165,7 +165,7 @@ abbrev pub IsWrite : (w : Work) (members : ℕ) (is_long : Bool) → Move w memb
 IsWrite w members is_long (Writes j part n memory) = Unit {0}
 IsWrite w members is_long other = ⊥
 
--- There is a number that each move but Writes makes smaller, so that no run goes on for ever.
+-- Each move except Writes makes a number smaller, so only endless Writes can make a run infinite.
 abbrev pub EveryRunEnds : (w : Work) (members : ℕ) (is_long : Bool) → Type 0
 EveryRunEnds w members is_long = (left : Threads w members is_long → ℕ) × ((s : Threads w members is_long) (m : Move w members is_long)
     → IsReached w members is_long s → Can w members is_long s m

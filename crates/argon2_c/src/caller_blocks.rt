@@ -66,8 +66,8 @@ fn hash_context(
     Ok(())
 }
 
-/// Whether a hash is the tag of its own length, which is then in a buffer of that length. The
-/// settings are checked with it, and `settings.hash_length` is ignored. Its errors are those of
+/// Whether a hash is the tag of its own length. The settings are checked with this length, not with
+/// `settings.hash_length`. The tag is then in `tag`, of this length. Its errors are those of
 /// `hash`.
 #[inline(never)]
 pub fn verify(

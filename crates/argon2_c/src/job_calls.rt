@@ -163,12 +163,13 @@ pub extern "C" fn proved_argon2_encode(
 
 /// The theorems about the steps of a hash. It does nothing when it runs.
 ///
-/// - Whatever the order of the lanes within each slice: if each step returned 0, what is finished
-///   then is the tag, and what is verified is whether a hash is the tag. The calls that take all
-///   steps in one order return the same.
-/// - So it is if the threads of the driver's model take the steps (`team`, `team_verdict`). Once a
-///   call is over, no thread works (`team_end`). A call goes on only if its pool ran each task once
-///   (`team_pool`). The threads never all wait, and every call ends (`team_returns`).
+/// - Whatever the order of the lanes within each slice: if each step returned 0, `finish` writes
+///   the tag, and `verify` says whether a hash is the tag. The calls that take all steps in one
+///   order return the same.
+/// - The same is true if threads of the driver's model take the steps (`team`, `team_verdict`).
+///   Once a call is over, no thread works (`team_end`). It goes on only if its pool ran each task
+///   once (`team_pool`). The threads never all wait, and a call ends unless a proved call in it
+///   writes for ever (`team_returns`).
 pub fn any_order_of_steps()
     ensures turns { EveryOrderOfTurnsIsARun }
     ensures tag { EveryRunGivesTheTag }

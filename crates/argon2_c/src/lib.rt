@@ -111,9 +111,8 @@ pub extern "C" fn proved_argon2_read_within(
     code_of(&reading::read_within(text, limits, stored))
 }
 
-/// Returns 0 only where a hash with these settings is made of inputs of these lengths, if there is
-/// memory for it: the numbers of variant and version and the settings table are all that is looked
-/// at.
+/// Returns 0 only if a hash with these settings can be made from inputs of these lengths, given
+/// enough memory. Only the numbers of variant and version and the settings table are checked.
 #[unsafe(no_mangle)]
 pub extern "C" fn proved_argon2_check(
     settings: &Settings,
@@ -128,8 +127,8 @@ pub extern "C" fn proved_argon2_check(
     code_of(&settings.check(pwd_len, salt_len, secret_len, ad_len))
 }
 
-/// `proved_argon2_read_within` of an encoded hash that can be verified, with inputs of these
-/// lengths: its settings are checked too. On an error `stored` is unchanged.
+/// As `proved_argon2_read_within`, but also checks the settings with inputs of these lengths. On an
+/// error `stored` is unchanged.
 #[unsafe(no_mangle)]
 pub extern "C" fn proved_argon2_check_encoded(
     text: &[u8],
@@ -175,8 +174,8 @@ pub extern "C" fn proved_argon2_encoded_len(settings: &Settings, salt_len: u32) 
     settings.encoded_len(salt_len)
 }
 
-/// How many bytes the blocks of these settings have, 1,024 each, or 0 where no call with these
-/// settings is accepted, whatever its inputs: `proved_argon2_check` judges their lengths too.
+/// How many bytes the blocks of these settings have, 1,024 each, or 0 if the settings are rejected
+/// for all inputs. (`proved_argon2_check` also checks the inputs' lengths.)
 #[unsafe(no_mangle)]
 pub extern "C" fn proved_argon2_memory_len(settings: &Settings) -> u64
     ensures { (secret ad : Bor (List ℕ)) → secret.now ≡ [] → ad.now ≡ []

@@ -90,8 +90,8 @@ impl Settings {
         }
     }
 
-    /// How many bytes the blocks of a hash with these settings have, or 0 where no call with them
-    /// is accepted, whatever its inputs: no input is judged here, as `check` judges its length.
+    /// How many bytes the blocks of a hash with these settings have, or 0 if the settings are
+    /// rejected for all inputs. (`check` also checks the inputs' lengths.)
     pub fn memory_len(&self) -> u64
         ensures { (secret ad : Bor (List ℕ)) → secret.now ≡ [] → ad.now ≡ []
             → result ≡ memory_len_of (config_of self.now secret ad) }

@@ -71,11 +71,11 @@ longest_password = 65536
 abbrev pub IsPassword : Option (List ℕ) → List ℕ → Type 0
 IsPassword input password = IfSome input (λ bytes. password ≡ bytes)
 
--- and `new` and `check` take it
+-- and `new` and `check` accept it
 abbrev pub IsShortPassword : Option (List ℕ) → List ℕ → Type 0
 IsShortPassword input password = IsPassword input password × (length password ≤ longest_password)
 
--- the input holds more than they take
+-- the input holds more than they accept
 abbrev pub IsTooLong : Option (List ℕ) → Type 0
 IsTooLong input = IfSome input (λ bytes. longest_password < length bytes)
 

@@ -63,7 +63,7 @@ pub record ReadsFor (program : Program) (words : List (List ℕ)) (before after 
   pub is_command : IsCommand program words command
   pub stops : ReadsUpTo (most_read command) before after
 
--- so it is, or the words are those of no command, and nothing was read
+-- the same, or the words are no command and nothing was read
 abbrev pub Reads : Program → List (List ℕ) → Option (List ℕ) → Option (List ℕ) → Type 0
 Reads program words before after = ReadsFor program words before after ⊎ (IsNoCommand program words × Keeps before after)
 
@@ -78,7 +78,7 @@ abbrev pub IsShortOrFails : Program → List (List ℕ) → Option (List ℕ) �
 IsShortOrFails program words input before after =
     (((error : Error) × MayFailWith program words input error) × Keeps before after) ⊎ HasAnswer program words input
 
--- no more was written than first bytes of the lines of the answer to the words' command
+-- only first bytes of the answer's lines to the words' command were written
 pub record WritesFront (program : Program) (words : List (List ℕ)) (input before after : Option (List ℕ)) : Type 0 where
   pub command : Command
   pub answer : Answer
@@ -86,7 +86,7 @@ pub record WritesFront (program : Program) (words : List (List ℕ)) (input befo
   pub is_answer : IsAnswer command input answer
   pub is_front : AppendsFront before after (lines_of answer)
 
--- so it is, or nothing was written
+-- the same, or nothing was written
 abbrev pub WritesAnswer : Program → List (List ℕ) → Option (List ℕ) → Option (List ℕ) → Option (List ℕ) → Type 0
 WritesAnswer program words input before after = Keeps before after ⊎ WritesFront program words input before after
 

@@ -61,7 +61,7 @@ Fits Text word = ⊤
 abbrev pub kind_at : List Kind → ℕ → Kind
 kind_at kinds place = slice_index_or kinds place Text
 
--- so are all before a place
+-- all before a place fit
 abbrev pub FitBelow : List Kind → List (List ℕ) → ℕ → Type 0
 FitBelow kinds words end = (place : ℕ) → place < end → Fits (kind_at kinds place) (word words place)
 

@@ -9,8 +9,8 @@ use argon2::Error;
 use std::alloc::Global;
 use std::env::{Env, FillError};
 
-/// What a program is started with. It is a trait, since the toolchain's `Env` promises nothing of a
-/// process's arguments: what is proved is of any command line whose arguments are known.
+/// What a program is started with. It is a trait, since the toolchain's `Env` promises nothing
+/// about a process's arguments: the proofs cover any command line whose arguments are known.
 pub trait CommandLine {
     /// The bytes of the arguments, the program's name first, where they are known.
     ghost arguments: { Self → Option (List (List ℕ)) } = { λ _. None };

@@ -36,8 +36,7 @@ pub enum Fault {
 }
 
 impl Fault {
-    /// The fault of a stream that failed, one of two that are passed: one for lack of memory, and
-    /// one for anything else.
+    /// The fault of a stream that failed: `short` for lack of memory, `other` for anything else.
     pub fn of_stream(error: &io::Error, short: Fault, other: Fault) -> Fault
         ensures short { error_kind error.now ≡ ErrorKind.OutOfMemory → result ≡ short }
         ensures other { error_kind error.now ≢ ErrorKind.OutOfMemory → result ≡ other }

@@ -68,9 +68,9 @@ pub fn start<R: Threads + Wait + Sync, L: CommandLine, I: Read, O: Write, E: Wri
 /// written to `errors`: the message of the call's error (status 2), `usage` for arguments that are
 /// none of these (3), or `input` if the input cannot be read (4). If the output cannot be written,
 /// the status is 4 and no line is added; if it lacked memory for that, the status is 2, and the
-/// line is the message of `OutOfMemory`. Faults are reported in the order arguments, input, call,
-/// output, only the first one, and nothing is written to `output` before the result is whole.
-/// Behind the first byte that makes a password too long for every call, the input is not read on.
+/// line is the message of `OutOfMemory`. Only the first fault is reported, in the order arguments,
+/// input, call, output, and nothing is written to `output` before the result is complete. The input
+/// is not read beyond the first byte that makes a password too long for every call.
 pub fn run<R: Threads + Wait + Sync, I: Read, O: Write, E: Write>(
     rt: &R,
     alloc: Global,

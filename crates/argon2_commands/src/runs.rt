@@ -31,8 +31,8 @@ use std::thread::Threads;
 /// Their salt is given in hexadecimal digits, two of either case a byte. The password is all of
 /// `input`, and at most 65536 bytes; a longer one is rejected as too long before the call. A hash
 /// above the default limits is not checked, and none is made with settings above them: status 5,
-/// and a line on `errors`. All else is as for `run`, but a second line may say more of an error:
-/// of a usage error, which argument is wrong.
+/// and a line on `errors`. All else is as for `run`, but a second line may explain an error: for
+/// a usage error, it names the argument.
 // Its frames have H0. It is never inlined, so that `start` may overwrite them.
 #[inline(never)]
 pub fn conclude<R: Threads + Wait + Sync, I: Read, O: Write, E: Write>(
@@ -68,9 +68,9 @@ pub fn conclude<R: Threads + Wait + Sync, I: Read, O: Write, E: Write>(
     }
 }
 
-/// Writes the result of the arguments' command, and returns the exit status. It tells the call's
-/// errors from an output that lacked memory, which have one exit status: nothing was written where
-/// anything but the output failed.
+/// Writes the result of the arguments' command, and returns the exit status or the fault, which
+/// tells the call's errors from an output that lacked memory (they share a status). Nothing was
+/// written unless the output failed.
 pub fn attempt<R: Threads + Wait + Sync, I: Read, O: Write>(
     rt: &R,
     alloc: Global,

@@ -167,8 +167,8 @@ fn fill_slices(job: &Job, slices: &mut Slices)
     }
 }
 
-/// Fills the job's slice: it moves out beside the others, which are read while it is written, and
-/// back. No block is copied.
+/// Fills the job's slice, which is moved out and back: the others are read while it is written. No
+/// block is copied.
 pub fn fill_slice_in_turn(job: &Job, slices: &mut Slices)
     requires slices { AreSlices job.now.setting.lanes job.now.setting.segment_length
         (segments_of slices.old) }

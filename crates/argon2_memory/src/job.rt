@@ -98,7 +98,7 @@ pub fn prehash_of_job(job: &Job) -> [u8; PREHASH_DIGEST_LENGTH]
     job.prehash
 }
 
-/// The job of the first slice of the first pass, for a setting that is told in its numbers. A
+/// The job of the first slice of the first pass, for a setting that is given by numbers. A
 /// function and no method, since `Job` is seen by users.
 pub fn job_of_setting(
     prehash: &[u8; PREHASH_DIGEST_LENGTH],

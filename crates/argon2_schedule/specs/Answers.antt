@@ -65,7 +65,7 @@ config_at x secret ad = record {
 abbrev pub Anywhere : List ℕ → List ℕ → (Bor (List ℕ) → Bor (List ℕ) → Type 0) → Type 0
 Anywhere secret ad Fact = (s a : Bor (List ℕ)) → s.now ≡ secret → a.now ≡ ad → Fact s a
 
--- the error of the parameter table or, where there is none, what is made of the tag, or a resource error
+-- the error of the settings table or, where there is none, what is made of the tag, or a resource error
 abbrev pub Returns : Inputs → (Config → List ℕ → List ℕ) → Result (List ℕ) Error → Type 0
 Returns x made answer = Anywhere x.secret x.ad (λ s a. let config = config_at x s a in
     IsHash x.pwd x.salt config (may_lack_workers config) (λ value tag. value ≡ made config tag) answer)
@@ -86,7 +86,7 @@ ReturnsText x answer = Returns x (text_at x) answer
 abbrev pub IsTextLength : Inputs → ℕ → Type 0
 IsTextLength x size = Anywhere x.secret x.ad (λ s a. (tag : List ℕ) → length tag ≡ x.length → length (text_at x (config_at x s a) tag) ≡ size)
 
--- as `verify_raw`: whether a hash is the tag of its own length, or the parameter table's error, or a resource error
+-- as `verify_raw`: whether a hash is the tag of its own length, or the settings table's error, or a resource error
 abbrev pub JudgesHash : Inputs → List ℕ → Result Bool Error → Type 0
 JudgesHash x hash answer = Anywhere x.secret x.ad (λ s a. let config = config_at x s a in
     IsVerdict x.pwd x.salt hash config (may_lack_workers config) answer)

@@ -32,7 +32,7 @@ use Rattle.argon2_schedule.specs.contracts.verify_within_by_value.Key as VerifyW
 abbrev pub size_of : List ℕ → RattleType
 size_of bytes = Param.number (length bytes)
 
--- `hash_raw` in any thread mode: the tag, the parameter table's error, or a resource error
+-- `hash_raw` in any thread mode: the tag, the settings table's error, or a resource error
 abbrev pub HashRawReturned : Inputs → RattleType
 HashRawReturned x = type_at (HashRaw.signature (size_of x.pwd) (size_of x.salt) (size_of x.secret) (size_of x.ad) (Param.number x.length) Runtime).result ([], ([], ([], ([], ([], ([], tt))))))
 
@@ -48,7 +48,7 @@ tag_value tag = vstruct (vcons (live 0 (vcons (array_val (byte_vals tag)) vnil))
 abbrev pub IsTagOrResourceError : Inputs → List ℕ → Bool → Val → Type 0
 IsTagOrResourceError x tag workers v = (v ≡ tag_value tag) ⊎ ((e : Error) × IsResourceError workers e × Is (HashRawReturned x) (Err e, record { seal = tt }) (v ∷ []))
 
--- the same where the parameter table accepts the settings: the tag's bytes in the machine value, or a resource error
+-- the same where the settings table accepts the settings: the tag's bytes in the machine value, or a resource error
 abbrev pub ExplicitTagUnderEverySchedule : Code → Type 0
 ExplicitTagUnderEverySchedule code = (x : Inputs) → AreInputs x → Anywhere x.secret x.ad (λ s a. let config = config_at x s a in
     table_error config (length x.pwd) (length x.salt) x.length ≡ None
@@ -65,7 +65,7 @@ TextUnderEverySchedule code = (x : Inputs) → AreInputs x → (size : ℕ) → 
     → OfCall code HashEncodedKey.name (x.pwd ∷ x.salt ∷ x.secret ∷ x.ad ∷ []) (size ∷ []) (setting_vals x ++ vint w32 x.length ∷ [])
     (HashEncodedReturned x size) (λ r. ReturnsText x r.0)
 
--- `verify_raw`: whether a hash is the tag of its own length, the parameter table's error, or a resource error
+-- `verify_raw`: whether a hash is the tag of its own length, the settings table's error, or a resource error
 abbrev pub VerifyRawReturned : Inputs → List ℕ → RattleType
 VerifyRawReturned x hash = type_at (VerifyRaw.signature (size_of x.pwd) (size_of x.salt) (size_of hash) (size_of x.secret) (size_of x.ad) Runtime).result ([], ([], ([], ([], ([], ([], tt))))))
 

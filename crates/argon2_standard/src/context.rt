@@ -181,8 +181,8 @@ pub fn prehash_of_context(context: &Context<'_>) -> [u8; PREHASH_DIGEST_LENGTH]
     context.prehash
 }
 
-/// Tells the prover how many workers may fill a slice: at least one, and fewer than 2^24. It is told
-/// of a context, since only accepted settings have these bounds. It does nothing else.
+/// Tells the prover how many workers may fill a slice: at least one, and fewer than 2^24. This is
+/// about a context, since only accepted settings have these bounds. It does nothing else.
 #[tactic(auto, using(crate::proofs::Settings::accepted, crate::proofs::Settings::workers_fit))]
 pub fn facts_of_workers(context: &Context<'_>)
     ensures some { 0 < workers_of context.now.config }

@@ -1,7 +1,7 @@
-//! What takes minutes with the checks of `rt try`: the example of the original's documentation with
-//! settings of its own, 64 MiB in 10 passes; and inputs of each length, and each number of lanes, up
-//! to some: that a value comes. Which value it has to be, a call's contract says; that no resource
-//! error comes where nothing is denied, none does.
+//! What takes minutes with the checks of `rt try`: the original documentation's example with its
+//! own settings, 64 MiB in 10 passes; and that a value is returned for each length and number of
+//! lanes up to some limits. A contract says which value; none says that there is no resource error
+//! if nothing is denied.
 
 ghost use Rattle.std.specs.Prelude.{◌<◌};
 

@@ -13,8 +13,8 @@
 //! | `arguments ARGUMENT..` | none: the words of these arguments are given, each behind how often it stands there in a row |
 //!
 //! The answer of a run is its status, and what stands on the output and on the error stream; of a start
-//! only the last two. An argument is bytes, as in `line`, with a number and `*` before it where it stands there
-//! so often.
+//! only the last two. An argument is bytes, as in `line`; a number and `*` before it say how often it is
+//! repeated.
 
 use crate::line::{Words, bytes_of, repeated};
 use crate::streams::{Flaw, Input, Output, Started};
