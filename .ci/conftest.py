@@ -1,4 +1,4 @@
-"""What CI's tests share: where their modules are, what is built, and which programs there are."""
+"""What CI's tests share: the path of their modules, what is built, and which programs exist."""
 
 import shutil
 import sys
@@ -17,7 +17,7 @@ def built():
 
 @pytest.fixture(scope='session')
 def needs():
-    """Skips a test where a program is not there: `needs('valgrind')`."""
+    """Skips a test if a program is missing: `needs('valgrind')`."""
     def check(*programs):
         for program in (program for program in programs if not shutil.which(program)):
             pytest.skip(f'there is no {program}')

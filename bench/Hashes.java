@@ -10,7 +10,7 @@ import org.bouncycastle.crypto.generators.Argon2BytesGenerator;
 import org.bouncycastle.crypto.params.Argon2Parameters;
 
 /**
- * Hashes by this library or by Bouncy Castle whenever a line comes, and writes the tag and the milliseconds, for
+ * Hashes by this library or by Bouncy Castle for each input line, and prints the tag and the milliseconds, for
  * times.py: {@code Hashes ours|theirs KIB PASSES LANES THREADS}.
  */
 final class Hashes {

@@ -1,4 +1,4 @@
-// Hashes by the package for JavaScript whenever a line comes, and writes the tag and the milliseconds, for times.py:
+// Hashes by the package for JavaScript for each input line, and prints the tag and the milliseconds, for times.py:
 // node.mjs MODULE native|wasm KIB PASSES LANES THREADS
 import { createInterface } from 'node:readline';
 

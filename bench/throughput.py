@@ -2,9 +2,9 @@
 """Measures how many hashes per second callers get that hash at the same time, and how long each of them waits, for our
 library and its peers: bench/throughput.py FOLDER SECONDS
 
-Each caller is a thread, which ctypes lets run beside the others while it hashes. FOLDER is what bench/run builds. Each
-implementation runs for SECONDS in each of ROUNDS, which have a new random order. For each case and implementation this
-prints a line: the case, the name, hashes per second, and the median and the 99th percentile of milliseconds.
+Each caller is a thread; ctypes lets threads hash at the same time. FOLDER is what bench/run builds. Each implementation
+runs for SECONDS in each of ROUNDS, which have a new random order. For each case and implementation this prints a line:
+the case, the name, hashes per second, and the median and the 99th percentile of milliseconds.
 """
 import os
 import random
@@ -56,8 +56,8 @@ def measure(loaded, cost, callers, seconds):
 
 
 def summed_up(spent):
-    """Hashes per second, the median and the percentile. A caller's last hash ends after its time: so each caller counts
-    by the time that it took."""
+    """Hashes per second, the median and the percentile. A caller's last hash ends late, so each caller counts with its
+    actual time."""
     rate = sum(len(times) / sum(times) * 1000 for times in spent) / ROUNDS
     every = sorted(chain.from_iterable(spent))
     return f'{rate:.4g} {statistics.median(every):.3g} {every[len(every) * PERCENT // 100]:.3g}'

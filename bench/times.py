@@ -1,6 +1,6 @@
 #!/usr/bin/env python3
-"""Times whole hashes of our library beside its peers, by turns in one process, but for Node, Go and Java:
-bench/times.py FOLDER SECONDS
+"""Times whole hashes of our library and its peers, by turns in one process, except Node, Go and Java: bench/times.py
+FOLDER SECONDS
 
 Each round runs every implementation, so that a slow moment of the machine falls on all of them. Each tag is compared
 before it is timed. FOLDER is what bench/run builds. A case runs SECONDS for each of its threads, since times differ
@@ -27,7 +27,7 @@ PASSWORD, SALT = create_string_buffer(b'password', 8), create_string_buffer(b'so
 HUGE_PAGE, ARGON2ID, VERSION = 2 << 20, 2, 0x13
 # What each implementation writes, and what it has other addresses of, in a case.
 TAG, kept = create_string_buffer(32), []
-# The kinds of kernel, in the words of the pages, and what makes it one of them.
+# The kinds of kernel, in the pages' words, and how to set each.
 KINDS = {'madvise': 'huge pages on request', 'always': 'huge pages for all'}
 SWITCH = Path('/sys/kernel/mm/transparent_hugepage/enabled')
 # KiB, passes, lanes, and the threads that fill them.
@@ -36,7 +36,7 @@ COSTS = ((256, 2, 1, 1), (1024, 2, 1, 1), (4096, 2, 1, 1), (19456, 2, 1, 1), (10
 
 
 def timed(call, *arguments):
-    """What calls a function of C and gives the milliseconds that it took, or None where it fails."""
+    """Returns a call of a C function that returns its milliseconds, or None if it fails."""
     def run():
         begin = time.perf_counter_ns()
         failed = call(*arguments)
@@ -127,8 +127,8 @@ def openssl(library, cost):
     return timed(lambda: library.EVP_KDF_derive(context, TAG, c_size_t(len(TAG)), parameters) != 1)
 
 
-# An implementation: its names in figures.txt and on pages; a library of the machine, or made by bench/run; and what
-# makes what hashes, which gives milliseconds, or None where it has no such case.
+# An implementation: its names in figures.txt and on pages; a library of the machine or of bench/run; and what makes the
+# timed call, which returns milliseconds, or None without such a case.
 Peer = namedtuple('Peer', 'name label library call')
 PEERS = (
     Peer('v4', 'this library, AVX-512', 'v4.so', ours),
@@ -168,7 +168,7 @@ def load(folder, name):
 
 
 def prepare(loaded, cost):
-    """What hashes in a case, by the name of each that has it, and gives the same tag."""
+    """The calls to time in a case, by implementation; all return the same tag."""
     hashes, tags = {}, {}
     kept.clear()
     for peer, library in loaded.items():
@@ -204,7 +204,7 @@ def load_all(folder):
 
 
 def kinds():
-    """Each kind of kernel, which the kernel is meanwhile. In the end it is what it was."""
+    """Sets each kind of kernel in turn, and finally restores the original."""
     as_it_was = re.search(r'\[(.*)\]', SWITCH.read_text())[1]
     try:
         for kind in KINDS:

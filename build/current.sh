@@ -1,5 +1,5 @@
-# Whether what was built, and what release/ has, is of the sources as they are: functions for sh, for the repository
-# `root`. What is found wrong is left in `why`.
+# Functions for sh that tell whether what was built, and release/, are of the present sources of the repository `root`.
+# They leave a fault in `why`.
 # shellcheck shell=sh disable=SC2034,SC2154
 
 # crates.txt and the sources (src, specs, proofs) of crates and of those below them: `find_sources NAME..` leaves them
@@ -19,7 +19,7 @@ find_sources() {
     done
 }
 
-# The hash of files, and of those in folders, by their names and what is in them: `sum_files PATH..` leaves it in `sum`.
+# The hash of files, and of those in folders, with their names and contents: `sum_files PATH..` leaves it in `sum`.
 # (CMake's files there link and test what is built, and change no byte of it.)
 sum_files() {
     case " $*" in *\ -*) why="$* names an option of find" && return 1 ;; esac
@@ -27,9 +27,9 @@ sum_files() {
         | LC_ALL=C sort -k 2 | sha256sum) && sum=${sum%% *}
 }
 
-# A machine of build/machines.txt, by its name or that of a build: `find_machine NAME` leaves what the table has of it
-# in `machine`, `number`, `target`, `tool_prefix`, `base` and `builds`, and those of them that the toolchain makes in
-# `proved`, and the others in `kernels`. All of them become parts of commands, so none may be an option or a path.
+# A machine of build/machines.txt, by its name or a build's: `find_machine NAME` leaves its values in `machine`,
+# `number`, `target`, `tool_prefix`, `base` and `builds`, the builds that the toolchain makes in `proved`, and the
+# others in `kernels`. All of them become parts of commands, so none may be an option or a path.
 find_machine() {
     while read -r machine number target tool_prefix base builds; do
         case $machine:" $machine $builds " in
@@ -92,8 +92,8 @@ read_address() {
 
 # ---- what is built here
 
-# What a build of crates is made from: `line_of NAME..` leaves it in `line`, the hash of their sources, and the kit that
-# is here, if there is one, as `rt version` says it.
+# What a build of crates is made from: `line_of NAME..` leaves in `line` the hash of their sources and, if there is a
+# kit, the output of `rt version`.
 line_of() {
     # shellcheck disable=SC2086 # they are words
     find_sources "$@" && sum_files $sources || return
@@ -102,15 +102,15 @@ line_of() {
     [ ! -e "${rt%/*}/../KIT-ID" ] || line="$sum $(paste -s -d ' ' -- "${rt%/*}/../KIT-ID")"
 }
 
-# Where a build is noted, and what of it beside what it is made from: `find_note FILE` leaves them in `note` and `of`.
-# The note of a folder stands in it, and goes where the folder is made anew.
+# Where a build is noted, and what is noted of its content: `find_note FILE` leaves these in `note` and `of`. A folder's
+# note is inside it, and disappears with the old folder.
 find_note() {
     note=$1/sources of=folder
     [ -d "$1" ] || { note=$1.sources && of=$(sha256sum <"$1"); }
 }
 
-# Notes that a file, or what a folder has, is built of the sources of a crate: `note_built CRATE LINE FILE`. Fails where
-# LINE, which was taken before the build, is another by now.
+# Notes that a file, or a folder's content, is built of the sources of a crate: `note_built CRATE LINE FILE`. Fails if
+# LINE, taken before the build, has changed.
 note_built() {
     why="$3 cannot be noted"
     find_note "$3" && rm -f -- "$note" && line_of "$1" || return
@@ -118,8 +118,8 @@ note_built() {
     [ "$line" = "$2" ] && printf '%s\n' "$line" "$of" >"$note.$$" && mv -f -- "$note.$$" "$note"
 }
 
-# Whether a file, or what a folder has, is what was noted beside it, and was built of these sources of a crate, and by
-# this kit, where there is one: `is_built CRATE FILE`.
+# Whether a file, or a folder's content, is as noted beside it, and was built of these sources of a crate and, if there
+# is one, by this kit: `is_built CRATE FILE`.
 is_built() {
     why="$2 is not built"
     [ -e "$2" ] && line_of "$1" && find_note "$2" || return
@@ -143,7 +143,7 @@ others_of() {
     esac
 }
 
-# The hash of all that a folder of release/ is built from: `sum_part FOLDER`.
+# The hash of everything a folder of release/ is built from: `sum_part FOLDER`.
 sum_part() {
     find_sources argon2_c argon2_program argon2_tool && others_of "$1" || return
     # shellcheck disable=SC2086 # they are words
@@ -157,8 +157,8 @@ is_of_sources() {
     grep -qxF "# sources $1 $sum" "$root/release/MANIFEST" 2>/dev/null
 }
 
-# Whether a file of release/, or what a folder has, is as the manifest names it: `is_listed PART`. Lines that the list
-# and the sums of the files have in common are there twice.
+# Whether a file of release/, or a folder's content, is as the manifest names it: `is_listed PART`. Lines that the list
+# shares with the files' sums appear twice.
 is_listed() {
     why="release/MANIFEST names no file of $1"
     listed=$(grep -E "^[^#].*  $1(/|\$)" "$root/release/MANIFEST") || return

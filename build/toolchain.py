@@ -1,4 +1,4 @@
-"""The toolchain's own code, which stands beside `rt`, and whether what it built is current."""
+"""Loads the toolchain's own code, beside `rt`, and tells whether its builds are current."""
 import contextlib
 import functools
 import os
@@ -50,7 +50,7 @@ def stamp(crate):
 
 
 def mark(crate, line, file):
-    """Notes of a file that it is built from these sources of a crate; gives whether these are still the same."""
+    """Notes that a file is built from these sources of a crate; returns whether they are still the same."""
     return shell('note_built "$@" || ! echo "$why" >&2', crate, line, file).returncode == 0
 
 
@@ -61,9 +61,9 @@ def is_current(crate, *files, says_why=False):
 
 
 def build_below(crate):
-    """Has the libraries below a crate proved and built, unless all are as a whole proof left them, and no source has
-    changed since; gives whether they are there. They fit only each other: where another command has built one anew, the
-    mark in its folder is gone."""
+    """Has the libraries below a crate proved and built, unless a whole proof left them and no source has changed since;
+    returns whether they exist. They fit only each other: if another command rebuilt one, the mark in its folder is
+    gone."""
     libraries = crate.below()
     if all(is_current(library.name, os.path.dirname(library.rlib)) for library in libraries):
         return True

@@ -1,16 +1,16 @@
-/* What goes wrong in a program that this is preloaded into. It says on standard error what it met, a line each, so that
-   a run that met nothing is seen to have tested nothing: each request for memory says `request` or `refused`, each
-   block that is freed `freed`, each start of a thread `start`, `refused` or, by the system, `denied`; and the end how
-   much memory was resident at most: the line `VmHWM` of /proc/self/status.
+/* Makes things go wrong in a program that preloads this. It reports each event in a line on standard error, so that a
+   run without events is seen to have tested nothing: each request for memory says `request` or `refused`, each block
+   that is freed `freed`, each start of a thread `start`, `refused` or, by the system, `denied`; and the end how much
+   memory was resident at most: the line `VmHWM` of /proc/self/status.
 
    REFUSE_REQUEST N  refuses the N-th request for memory
-   REFUSE_START N    the same of starts of threads
-   REFUSE_TRIES N    refuses so many in a row, since what is refused is tried again; else one
-   DELAY N           each new thread waits before it begins, and as long before it ends, up to so many microseconds,
-                     another time for each: `late`
+   REFUSE_START N    refuses the N-th thread start
+   REFUSE_TRIES N    refuses so many in a row, since callers try again; without it, one
+   DELAY N           each new thread waits up to so many microseconds before it begins, and as long before it ends,
+                     differently for each: `late`
 
-   A Rattle program asks for memory by malloc and realloc alone, and ends by _exit, which runs no destructor. What
-   pthread_create asks for goes by calloc, which is left alone. */
+   A Rattle program allocates only by malloc and realloc, and ends by _exit, which runs no destructor. pthread_create
+   allocates by calloc, which is not replaced here. */
 #include <dlfcn.h>
 #include <errno.h>
 #include <fcntl.h>
@@ -36,7 +36,7 @@ static unsigned long number_in(const char *name, unsigned long other)
     return number ? strtoul(number, NULL, 10) : other;
 }
 
-/* Whether this is one of those that are refused: from the first on, which those before it leave to its tries. */
+/* Whether to refuse this one: the first that is refused, or one of its next tries. */
 static int is_refused(const char *name, unsigned long *count)
 {
     const unsigned long first = number_in(name, 0), number = __atomic_add_fetch(count, 1, __ATOMIC_SEQ_CST);
@@ -86,7 +86,7 @@ static void *run_late(void *argument)
     return result;
 }
 
-/* The waits are random()'s without a seed, the same in each run. */
+/* The waits are from random() without a seed: the same each run. */
 int pthread_create(pthread_t *thread, const pthread_attr_t *attributes, void *(*run)(void *), void *argument)
 {
     __typeof__(pthread_create) *const next = dlsym(RTLD_NEXT, "pthread_create");

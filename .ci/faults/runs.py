@@ -1,5 +1,5 @@
-"""Runs copies of the programs and the tests that the proofs leave in crates/*/out, over faults.c, and says what came of
-a run."""
+"""Runs copies of the programs and the tests that the proofs leave in crates/*/out, with faults.c preloaded, and reports
+each result."""
 
 import base64
 import functools
@@ -28,7 +28,7 @@ NOTE = re.compile(r'^(request|freed|start|refused|denied|late|VmHWM:.*)\n', re.M
 VALUE, NO_MEMORY, NO_WORKER = 'value', 'Out of memory\n', 'A worker was refused\n'
 VARIANTS, VERSIONS = ('argon2d', 'argon2i', 'argon2id'), (16, 19)
 SEED = os.environ.get('SEED') or str(random.randrange(1 << 32))
-# What is built here, and copies that a build beside these tests does not replace.
+# What is built here, and copies that no simultaneous build replaces.
 FOLDER = tempfile.TemporaryDirectory()
 os.chmod(FOLDER.name, 0o711)  # (for users who are not root)
 FAULTS = str(build_preloaded(TOP / '.ci/faults/faults.c', FOLDER.name))
@@ -44,8 +44,8 @@ def copy_of(name, suffix=''):
 
 
 class Came:
-    """What came of a run: its status, its output, the notes of faults.c, how many there are of each, what else it said,
-    and what was seen meanwhile."""
+    """The result of a run: its status, its output, the notes of faults.c, their number by kind, its other errors, and
+    what was seen meanwhile."""
 
     def __init__(self, status, output, errors, seen):
         said = errors.decode(errors='replace')
@@ -54,7 +54,7 @@ class Came:
         self.met = Counter(self.notes)
 
     def end(self, status, output, errors=''):
-        """`VALUE` if it came to this, a refusal, or what else it came to."""
+        """`VALUE` if it ended so, the refusal, or how else it ended."""
         if (self.status, self.output, self.errors) == (status, output, errors):
             return VALUE
         is_refused = (self.status, self.output) == (2, '') and self.errors in (NO_MEMORY, NO_WORKER)
@@ -62,8 +62,8 @@ class Came:
 
 
 def run(words, is_over_faults=True, meanwhile=lambda process: None, input_bytes=PASSWORD, how=None, **variables):
-    """Runs a command with the password on its standard input, and stops it where it hangs. `meanwhile` is called with
-    the process beside it; `how` is for subprocess, and the variables are for faults.c."""
+    """Runs a command with the password on its standard input, and kills it if it hangs. `meanwhile` is called with the
+    running process; `how` is for subprocess, and the variables are for faults.c."""
     own = {'LD_PRELOAD': FAULTS} if is_over_faults else {}
     env = {**os.environ, **own, **{name: str(value) for name, value in variables.items()}}
     pipes = dict.fromkeys(('stdin', 'stdout', 'stderr'), subprocess.PIPE)
@@ -77,7 +77,7 @@ def run(words, is_over_faults=True, meanwhile=lambda process: None, input_bytes=
 
 
 class Hash(NamedTuple):
-    """A hash by the program, by workers as many as its lanes, or `most`, or by none."""
+    """A hash by the program, with a worker for each lane, or `most`, or none."""
     variant: str
     version: int
     passes: int
@@ -96,13 +96,13 @@ class Hash(NamedTuple):
         return ['hash', *self.settings(), self.salt.decode()]
 
     def starts(self):
-        """How often a worker is started: for each slice so many, but the caller's thread alone is none."""
+        """How many workers are started: so many for each slice, or none if only the caller works."""
         workers = self.lanes if self.most is None else min(self.most, self.lanes)
         return SLICES * self.passes * workers if workers > 1 else 0
 
     @functools.cache
     def text(self):
-        """What libargon2 makes."""
+        """libargon2's encoded hash."""
         return hash_secret(self.password, self.salt, self.passes, self.memory, self.lanes, self.length,
                            Type(VARIANTS.index(self.variant)), self.version).decode()
 

@@ -1,5 +1,5 @@
 """Runs the program under limits of the system: just as many threads as it needs, no thread at all, little address
-space, and a matrix that no system has. Root alone can: it makes a user of its own count threads."""
+space, and a matrix that no system has. Only root can: it runs a separate user, whose threads count."""
 
 import os
 import resource
@@ -9,11 +9,11 @@ from itertools import groupby
 import pytest
 from runs import NO_MEMORY, NO_WORKER, SLICES, TRIES, VALUE, Hash, copy_of, run
 
-HASHES, FEW, LEAST = 200, 20, 198  # hashes; those that lack a thread; and how many of the former come
+HASHES, FEW, LEAST = 200, 20, 198  # hashes; those with one thread fewer; how many former ones must succeed
 PASSES, LATE = 3, 1000  # microseconds
 MATRIX, BESIDE_THE_MATRIX, BESIDE_A_SLICE = 65536, 16384, 4096  # KiB
 MOST_RESIDENT, MANY = 2048, 16  # KiB, of which the program itself has most; workers
-# A user of nobody's, by Debian and systemd: Linux counts all threads of a user.
+# A user ID unused by Debian and systemd: Linux counts all threads of a user.
 USER = 60706 + os.getpid() % 478
 LITTLE = {'space': (MATRIX + BESIDE_THE_MATRIX) * 1024}
 
@@ -24,8 +24,8 @@ def hashing(passes, memory, lanes, *count, **how):
 
 
 def met(words, output, count=1, space=resource.RLIM_INFINITY, threads=None, **variables):
-    """How many of each end and of each note there are in runs within so many bytes or, by a user, so many threads; in
-    how many rows of tries starts were denied (`again`); and the KiB that were resident at most."""
+    """Counts each end and each note in runs within this address space or, by a user, this many threads; the rows of
+    tries in which starts were denied (`again`); and the peak of resident KiB."""
     assert not os.geteuid(), 'root alone can limit the threads of a user of its own'
     limit, most = (resource.RLIMIT_NPROC, threads) if threads else (resource.RLIMIT_AS, space)
     own = {'user': USER, 'group': USER, 'extra_groups': []} if threads else {}
@@ -38,11 +38,11 @@ def met(words, output, count=1, space=resource.RLIM_INFINITY, threads=None, **va
 
 
 @pytest.mark.parametrize('workers', (2, 4, 8))
-def test_as_many_threads_as_are_needed(workers):
-    """Hashes again and again with as many threads as the workers and their caller are, each of which is late. Where
-    workers are not joined, or one more is started, each slice meets the limit, and a start is tried again; else a few
-    do, since Linux counts a thread until a moment after its joiner goes on. With a thread fewer each slice has to meet
-    the limit, or else it is none: a hash comes all the same, once a worker has ended."""
+def test_a_hash_needs_only_its_workers_and_the_caller(workers):
+    """Hashes many times with exactly as many threads as the workers and their caller, all of them late. If workers were
+    not joined, or one more were started, each slice would meet the limit and try a start again. A few do so anyway,
+    since Linux still counts a joined thread for a moment. With one thread fewer, each slice has to meet the limit; a
+    hash succeeds all the same, once a worker has ended."""
     slices = SLICES * PASSES
     enough = hashing(PASSES, 64, workers, HASHES, threads=workers + 1, DELAY=LATE)
     fewer = hashing(PASSES, 64, workers, FEW, threads=workers, DELAY=LATE)
@@ -52,9 +52,9 @@ def test_as_many_threads_as_are_needed(workers):
     assert fewer['again'] >= FEW * slices // 2
 
 
-def test_little_space_beside_a_matrix():
-    """Sixteen workers in 16 MiB beside a matrix of 64 MiB, of which their stacks take 4, and those of all that are
-    started 32."""
+def test_sixteen_workers_fit_into_16_mib_beside_the_matrix():
+    """Sixteen workers fit into 16 MiB beside a matrix of 64 MiB: their stacks take 4; those of all started workers
+    would take 32."""
     assert hashing(2, MATRIX, MANY, space=MATRIX * 1024)[NO_MEMORY] == 1
     found = hashing(2, MATRIX, MANY, **LITTLE)
     assert (found[VALUE], found['start']) == (1, 2 * SLICES * MANY) and found['peak'] >= MATRIX
@@ -63,16 +63,16 @@ def test_little_space_beside_a_matrix():
 @pytest.mark.parametrize('how, denied, most', (
     ({**LITTLE, 'REFUSE_START': 1, 'REFUSE_TRIES': TRIES}, 0, MATRIX // 4 + BESIDE_A_SLICE),
     ({'threads': 1}, TRIES + MANY - 1, BESIDE_A_SLICE)), ids=('a refused start', 'no thread'))
-def test_no_worker(how, denied, most):
-    """Where the first start is refused, the others still fill the first slice, which is a quarter of the matrix, and no
-    page beyond it was touched. Where there is no thread at all, the first start is tried again and again, and the
-    others once, and no page of the matrix is touched before a worker begins."""
+def test_a_hash_without_workers_is_refused_with_few_pages_touched(how, denied, most):
+    """If the first start is refused, the others still fill the first slice, a quarter of the matrix, and no page beyond
+    it is touched. If there is no thread at all, the first start is tried again and again, and the others once, and no
+    page of the matrix is touched."""
     found = hashing(2, MATRIX, MANY, **how)
     assert (found[NO_WORKER], found['denied']) == (1, denied) and 0 < found['peak'] <= most
 
 
 @pytest.mark.parametrize('lanes', (1, 64, 1000))
-def test_a_text_of_4_tib(lanes):
+def test_an_encoded_hash_of_4_tib_is_refused_before_memory_is_touched(lanes):
     """It is refused before its matrix is touched."""
     found = met(['verify', f'$argon2id$v=19$m=4294967295,t=1,p={lanes}$c29tZXNhbHQ$c29tZWhhc2g'], '')
     assert found[NO_MEMORY] == 1 and 0 < found['peak'] <= MOST_RESIDENT

@@ -1,10 +1,10 @@
 """Runs the program and the shell's tool over real pipes: each exit status, what is written for it, words that no shell
-would pass, words of many lengths, and inputs that are longer than any password. The proofs know the bytes of no
-standard stream and the arguments of no process; which words a command takes is in rows of argon2_vectors. Hashes of
-libargon2 that are drawn from SEED of the environment, or else from a seed that is printed, of all lengths, come from
-Rattle's calls: no resource error comes without a shortage.
+would pass, words of many lengths, and inputs that are longer than any password. The proofs do not cover the bytes of
+standard streams or the arguments of processes; rows of argon2_vectors say which words a command takes. Rattle's calls
+return libargon2's hashes of all lengths, drawn from SEED of the environment or from a printed seed, and no resource
+error without a denial.
 
-Where the environment has OVER, the path of another tool that has the same words, this is over it alone.
+If the environment has OVER, the path of another tool with the same words, only that is tested.
 """
 
 import os
@@ -22,7 +22,7 @@ of_calls = pytest.mark.skipif(bool(OTHER), reason="OVER has no calls of Rattle's
 BINARIES = ['argon2_tool'] if OTHER else ['argon2_program', 'argon2_tool']
 # The longest password that any call accepts, and that the tool takes; and the address space that is left beside it.
 LONGEST, LONGEST_OF_TOOL, BESIDE = (1 << 32) - 1, 1 << 16, 6 << 30 if OTHER else 16 << 20
-# What a run comes to: its status, and what stands on the output and on the error stream.
+# The result of a run: its status, and what it writes to output and errors.
 TRUE, FALSE, USAGE, INPUT = (0, 'true\n', ''), (1, 'false\n', ''), (3, '', 'usage\n'), (4, '', 'input\n')
 ABOVE, TOO_LONG = (5, '', 'The encoded hash is above the limits\n'), (2, '', 'Password is too long\n')
 NO_TEXT, SHORT_SALT = (2, '', 'Decoding failed\n'), (2, '', 'Salt is too short\n')
@@ -51,9 +51,9 @@ COSTLY = [['check', '$argon2id$v=19$m=8,t=1000,p=1$$c29tZWhhc2g'], ['new', *'arg
 
 
 def ends():
-    """What each run of some words comes to, and how it is run. Statuses 0 and 1: the answer alone is written. Status 2:
-    the refusal's line alone is. Status 5: above the tool's limits, whatever else is wrong. Status 3: words of no
-    command, to the last of 20,000."""
+    """The result of each run of some words, and how it is run. Statuses 0 and 1: only the answer is written. Status 2:
+    only the refusal. Status 5: above the tool's limits, whatever else is wrong. Status 3: words of no command, to the
+    last of 20,000."""
     yield (0, TWO.output(), ''), [HASH, NEW]
     yield (0, NO_WORD.output(), ''), [['new', *NO_WORD.settings(), NO_WORD.salt.hex()]]
     yield TRUE, [VERIFY, CHECK, [*REHASH[:3], '3', *REHASH[4:]]]
@@ -65,8 +65,8 @@ def ends():
     yield ABOVE, COSTLY
     yield USAGE, [[], ['verify'], [' '], [*HASH, 'more'], [*VERIFY, ''], ['word'] * 20000, [*VERIFY, *['word'] * 20000],
                   [b'verify', b'\xff'], [*HASH, b'\xc3('], ['check'], NEW[:-1], [b'check', b'\xff']]
-    # An input that is longer than any password is not read on, in address space that leaves little room beside the
-    # longest: a program that read on would lack memory.
+    # An input longer than any password is not read completely: the address space leaves little room beside the longest
+    # password, so such a program would lack memory.
     for space, every in ((LONGEST + BESIDE, [HASH, VERIFY]), (BESIDE, [NEW, CHECK])):
         yield TOO_LONG, every, {'by': f'exec prlimit --as={space} "$0" "$@" </dev/zero'}
     yield FALSE, [CHECK], {'input_bytes': b'x' * LONGEST_OF_TOOL}
@@ -88,22 +88,22 @@ def rows():
 
 
 def come_to(name, words, by=None, **how):
-    """What a run comes to, but for what the tool has to add to a line."""
+    """The result of a run, without what the tool adds to a line."""
     came = run([*(['bash', '-c', by] if by else []), OTHER or copy_of(name), *words], False, **how)
     return came.status, came.output, ADDED.sub('', came.errors) if name == 'argon2_tool' else came.errors
 
 
 @pytest.mark.parametrize('name, words, how, expected', rows(), ids=lambda value: f'{value!r:.60}')
-def test_words(name, words, how, expected):
+def test_each_run_has_the_expected_status_and_output(name, words, how, expected):
     end = come_to(name, words, **how)
     assert end == expected or end in expected
 
 
 @pytest.mark.parametrize('name', BINARIES)
 @pytest.mark.parametrize('size', (*range(8, 250), 333, 500, 750, 1000, 4096, 65536))
-def test_words_of_each_length(name, size):
-    """A salt, a text and a password come whole, or give another output. A length of the salt and one of the tag make
-    each length of a text."""
+def test_words_of_each_length_are_used_completely(name, size):
+    """A shortened salt, encoded hash or password would change the output. The lengths of salt and tag make each length
+    of an encoded hash."""
     for length in (16, 17):
         letters = bytes(48 + at % 75 for at in range(size))
         one = Hash('argon2i', 19, 1, 8, 1, length, 0, letters, letters[::-1])
@@ -113,7 +113,7 @@ def test_words_of_each_length(name, size):
 
 
 def answers_differ(rows):
-    """The rows that argon2_vectors answers otherwise, each with its answer."""
+    """The rows that argon2_vectors answers differently, each with its answer."""
     answered = run([copy_of('argon2_vectors')], False, input_bytes=''.join(f'{row[0]}\n' for row in rows).encode())
     answers = answered.output.splitlines()
     assert len(answers) == len(rows), answered.errors
@@ -136,7 +136,7 @@ def test_drawn_hashes_by_the_calls(tmp_path):
 @of_calls
 @pytest.mark.parametrize('kind', SIZES)
 def test_hashes_of_each_size_by_the_calls(kind):
-    """Rattle's calls: numbers that a drawing would seldom meet together, in each thread mode or by few workers."""
+    """Rattle's calls, with settings seldom drawn together, in each thread mode or by few workers."""
     rows = []
     for mode, one in SIZES[kind]:
         tag, text = one.output().split()

@@ -1,7 +1,7 @@
-"""Runs the program again and again where things go wrong, as each kind says, many processes at once. Each run has to
-end within its time with libargon2's tag and text, or with a refusal by name where one thing was refused for good. A
-kind in which too few runs met what they were to meet fails. The programs are those that both compilers make. What goes
-wrong is drawn from SEED of the environment, or else from one that is printed, but not what the threads make of it.
+"""Runs the program many times, many processes at once, while things go wrong as each kind says. Each run has to end in
+time with libargon2's tag and encoded hash or, if something was refused for good, with an error that names it. A kind
+fails if too few runs met its fault. Both compilers' programs run. The faults are drawn from SEED of the environment, or
+from a printed seed; how threads interleave is not.
 """
 
 import contextlib
@@ -40,8 +40,8 @@ def one_processor(draw, _):
 
 
 def stop(process):
-    """Stops a process up to four times, each time a moment after it is seen with workers, and gives how many threads it
-    then had at most."""
+    """Stops a process up to four times, each time a moment after it is seen with workers. Returns the most threads it
+    then had."""
     tasks, limit, threads = f'/proc/{process.pid}/task', time.monotonic() + SECONDS, []
     with contextlib.suppress(OSError):  # it may end meanwhile
         while len(threads) < 4 and process.poll() is None and time.monotonic() < limit:
@@ -55,9 +55,9 @@ def stop(process):
     return max(threads, default=0)
 
 
-# Each kind: what goes wrong; in a run that met it how often a note is there, or what else is seen; and of a hundred
-# runs how many have to. A start or request is drawn among more than there may be, and a stop may find that the workers
-# have just ended.
+# Each kind: what goes wrong; the notes, or what else is seen, of a run that met it; and how many percent of the runs
+# have to meet it. A start or request is drawn among more than there may be, and a stop may find that the workers have
+# just ended.
 KINDS = {
     'plain': (lambda *_: {}, lambda came, starts: came.met['start'] == starts, 100),
     'memory': (lambda draw, _: {'REFUSE_REQUEST': draw.randint(1, 120)}, lambda came, _: came.met['refused'], 50),
@@ -82,7 +82,7 @@ def expected_end(kind, came):
 
 
 def attempt(number, kind, program):
-    """One run of a kind: what came of it that is wrong, or None, and whether it met what was to go wrong."""
+    """One run of a kind: what is wrong with its result, or None, and whether it met its fault."""
     draw, (injury, has_met, _) = random.Random(f'{SEED} {kind} {number}'), KINDS[kind]
     settings = drawn(draw, kind)
     came = run([program, *settings.words()], **injury(draw, settings))
@@ -91,7 +91,7 @@ def attempt(number, kind, program):
 
 
 @pytest.mark.parametrize('kind', KINDS)
-def test_each_run_ends_well(kind):
+def test_each_run_returns_the_hash_or_names_what_was_refused(kind):
     programs = [copy_of('argon2_program', suffix) for suffix in ('', '.by-rattle')]
     with ThreadPoolExecutor(AT_ONCE) as pool:
         faults, met = zip(*pool.map(lambda number: attempt(number, kind, programs[number % 2]), range(RUNS)))

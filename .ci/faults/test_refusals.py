@@ -1,6 +1,6 @@
-"""Refuses each request for memory and each start of a worker in turn, over the tests and the programs that the proofs
-leave. A start is refused in all of its tries, and then in all but the last, which has to come out as if nothing had
-been refused. A label without a sweep fails, and so does a sweep without a label.
+"""Refuses each request for memory and each start of a worker in turn, in the tests and the programs that the proofs
+leave. A start is refused at all of its tries, and then at all but the last: then the result has to be unchanged. A
+label without a sweep fails, and so does a sweep without a label.
 """
 
 import re
@@ -19,7 +19,7 @@ ONE, TWO, MANY = (Hash('argon2i', 19, 2, max(256, 8 * p), p, 32) for p in (1, 2,
 # Above the limits, in a string that is much longer than those of other tests (an argument has at most 128 KiB).
 MORE = MANY._replace(lanes=LANES + 1, length=90_000)
 TRUE, FALSE = (0, 'true\n'), (1, 'false\n')
-# Runs of the program and of its tool: the label, what they are to come to, and the words.
+# Runs of the program and its tool: the label, the expected result, and the words.
 RUNS = (
     ('program_hash_by_workers', (0, TWO.output()), TWO.words()),
     ('program_hash_in_one_thread', (0, ONE.output()), ONE._replace(most=0).words()),
@@ -47,9 +47,9 @@ def labels_of(patterns):
         yield from map(''.join, product(*(part.split(',') if at % 2 else [part] for at, part in enumerate(parts))))
 
 
-# Labels, each of such a run or of a test without its `_refused_in_turn`. Then how many workers it is to start: 4 slices
-# * passes * workers, of which there are no more than lanes. Then what holds of its own number of requests for memory,
-# of how many it has held at most, and of the numbers of others by their labels.
+# Labels, each of such a run or of a test without its `_refused_in_turn`. Then how many workers it starts: 4 slices *
+# passes * workers, of whom there are at most as many as lanes. Then what its number of requests for memory, the most
+# that it held, and other labels' numbers have to satisfy.
 LABELS = {label: holds for patterns, *holds in (
     # Hashing, by the inputs of RFC 9106: 3 passes in 4 lanes. A slice by workers asks for its board.
     ('hash_raw_by_workers_argon2{d,i,id}', 4 * 3 * 4,
@@ -109,7 +109,7 @@ LABELS = {label: holds for patterns, *holds in (
 
 @pytest.fixture(scope='module')
 def sweeps():
-    """Each sweep's label, its command, and what that is to come to, where it is no test."""
+    """Each sweep's label, its command and, unless it is a test, the expected result."""
     files = (path for path in TOP.glob('crates/*/src/**/*.rt') if '#[test]' in path.read_text(encoding='utf-8'))
     binaries = [copy_of(f'{crate}_tests') for crate in sorted({path.relative_to(TOP).parts[1] for path in files})]
     names = [(binary, name) for binary in binaries
@@ -119,7 +119,7 @@ def sweeps():
 
 
 def end_of(came, expected):
-    """What a run came to. A test, of which nothing is wanted, says it by its first line."""
+    """The result of a run. A test, without an expected output, reports it in its first line."""
     if expected:
         return came.end(*expected)
     said = came.output.partition('\n')[0]
@@ -128,7 +128,7 @@ def end_of(came, expected):
 
 
 def denials(variable, ends):
-    """What faults.c is told to refuse the first, the second and so on, and how each has to end."""
+    """The variables that let faults.c refuse the first, the second and so on, and each run's expected end."""
     for number, end in enumerate(ends, 1):
         yield {variable: number, 'REFUSE_TRIES': TRIES if end == NO_WORKER else 1}, end
         if end == NO_WORKER:
@@ -136,9 +136,9 @@ def denials(variable, ends):
 
 
 def sweep(words, expected):
-    """Refuses each request in turn, and each start: how many there were of each, how many requests were held at most,
-    and what is wrong. A request right before a start is the start's own, and no other is to come out as a refused
-    worker. What was granted is to be freed; what the C library frees of a thread's is beside it."""
+    """Refuses each request in turn, and each start. Returns how many there were of each, the most requests held, and
+    what is wrong. A request right before a start belongs to that start; no other may end as a refused worker. What was
+    granted has to be freed; what the C library frees for threads is extra."""
     first = run(words)
     notes = ' '.join(note for note in first.notes
                      if note in ('request', 'start')).replace('request start', 'start').split()

@@ -1,10 +1,9 @@
 """Runs the program with settings of all sizes, drawn from SEED of the environment or else from one that is printed: up
-to 512 MiB, or a quarter of what the system has left, 300 lanes and workers and a tag of 90,000 bytes. Each has
-libargon2's tag and text, which verifies; starts as many workers as its settings say; and asks for memory as often as
-with the least memory, but for the two lines that are printed: their string grows with their length, and nothing of it
-is secret. With less memory valgrind also counts the blocks that are compressed, and by argon2_vectors those of the
-calls that work in one thread whatever the mode, which the program does not make. So nothing is refused, done by one
-thread, or done twice from some size on.
+to 512 MiB, or a quarter of what the system has left, 300 lanes and workers and a tag of 90,000 bytes. Each run has
+libargon2's tag and encoded hash, which verifies; starts as many workers as its settings say; and allocates as often as
+with the least memory, except for the two printed lines: their string grows with their length, and contains no secret.
+With less memory, valgrind also counts the compressed blocks, and by argon2_vectors those of calls that use one thread
+in any mode, which the program does not make. So at no size is anything refused, left to one thread, or done twice.
 """
 
 import random
@@ -16,7 +15,7 @@ import pytest
 from runs import PASSWORD, SEED, SLICES, VALUE, VARIANTS, VERSIONS, Hash, copy_of, run
 from shared import TOP
 
-# Where argon2_vectors is asked for `all` modes, it makes Rattle's calls in so many, and then that of one thread.
+# Asked for `all` modes, argon2_vectors makes Rattle's calls in this many, and then the one-thread call.
 MODES = 7
 DRAWS, DRAWS_COUNTED, DRAWS_OF_MODES = 24, 6, 4
 ABOUT = Path('/proc/meminfo').read_text(encoding='utf-8')
@@ -32,7 +31,7 @@ DRAW = random.Random(SEED)
 
 
 def of_a_magnitude(least, most):
-    """A number between two, of a drawn magnitude."""
+    """A random number between two, of random magnitude."""
     return min(most, int(least * (most / least) ** DRAW.random()) + DRAW.randint(0, 1))
 
 
@@ -56,8 +55,8 @@ def each(hashes):
 
 
 def blocks(settings):
-    """How many blocks are compressed: those of the matrix, in each pass, but for the first two of each lane; and two
-    for each 128 numbers that are drawn from no block, for each segment that has more than those two."""
+    """How many blocks are compressed: those of the matrix, in each pass, except for the first two of each lane; and two
+    for each 128 references that depend on no block, in each segment longer than those two."""
     length = settings.memory // (SLICES * settings.lanes)
     slices = {'argon2d': 0, 'argon2id': 2, 'argon2i': SLICES * settings.passes}[settings.variant]
     slices -= slices > 0 and length == 2
@@ -85,8 +84,8 @@ def growths(settings):
 
 
 @each(HASHES)
-def test_what_a_hash_takes(settings):
-    """What it writes, starts, and asks for as with less memory; and that its text is verified."""
+def test_a_hash_starts_and_allocates_as_with_less_memory(settings):
+    """It starts and allocates as with less memory, and its encoded hash verifies."""
     program, least = copy_of('argon2_program'), settings._replace(memory=8 * settings.lanes)
     came, other = (run([program, *of.words()]) for of in (settings, least))
     verified = run([program, 'verify', settings.text()])
@@ -98,13 +97,13 @@ def test_what_a_hash_takes(settings):
 
 
 @each(COUNTED)
-def test_blocks_that_are_compressed(settings):
+def test_the_program_compresses_each_block_once(settings):
     assert compressed_by('argon2_program', *settings.words()) == (settings.output(), blocks(settings))
 
 
 @each(OF_MODES)
-def test_blocks_in_each_mode(settings):
-    """The same of Rattle's calls in each mode, and in one thread."""
+def test_calls_in_each_mode_compress_each_block_once(settings):
+    """As above, for Rattle's calls in each mode and one thread."""
     tag, text = settings.output().split()
     inputs = f"{' '.join(map(str, settings[:6]))} all '{PASSWORD.decode()} '{settings.salt.decode()} - -"
     lines = f'hash_raw {inputs}\nhash_encoded {inputs}\nverify_raw {inputs} {tag}\n'

@@ -1,5 +1,5 @@
-"""What build/current.sh says of files that are, and are not, what they were made of; and that the text of a tracked
-file becomes no command, option or path of scripts that read it."""
+"""build/current.sh tells whether files are built from the present sources, and the text of a tracked file becomes no
+command, option or path in scripts that read it."""
 
 import re
 import shutil
@@ -7,7 +7,8 @@ import shutil
 import pytest
 from shared import TOP, run
 
-# The files that scripts read words of, by the function of build/current.sh that does so, and what nobody may put there.
+# The file that each function of build/current.sh reads. Then (function, pattern, replacement) of texts that it has to
+# reject.
 READ_BY = {'names_packages': 'release/MANIFEST', 'read_version': 'VERSION', 'read_address': 'PROJECT',
            'find_machine x86_64': 'build/machines.txt'}
 PLANTED = [
@@ -22,7 +23,7 @@ PLANTED = [
 
 @pytest.mark.parametrize('file, text, status', [('made', 'built', 0), ('crates/one/src/lib.rt', '2', 1),
                                                 ('made', 'other', 1)])
-def test_a_note_is_of_the_sources_and_the_file(tmp_path, file, text, status):
+def test_a_file_is_current_only_with_its_sources_and_its_bytes(tmp_path, file, text, status):
     (tmp_path / 'crates/one/src').mkdir(parents=True)
     for name, before in (('crates.txt', 'one:\n'), ('crates/one/src/lib.rt', '1'), ('made', 'built')):
         (tmp_path / name).write_text(before, encoding='utf-8')
@@ -38,7 +39,7 @@ def copy_with(folder, name, change=lambda text: text):
 
 
 @pytest.mark.parametrize('function, pattern, other', PLANTED)
-def test_words_that_are_none_are_rejected_by_name(tmp_path, function, pattern, other):
+def test_a_planted_text_is_rejected_and_its_file_is_named(tmp_path, function, pattern, other):
     name, script = READ_BY[function], f'root={tmp_path}; . build/current.sh; {function} || {{ echo "$why"; exit 1; }}'
     copy_with(tmp_path, name)
     assert run('sh', '-c', script).returncode == 0
@@ -48,7 +49,7 @@ def test_words_that_are_none_are_rejected_by_name(tmp_path, function, pattern, o
     assert came.returncode == 1 and name in came.stdout
 
 
-def test_a_folder_that_the_manifest_names_is_no_option_of_find(tmp_path):
+def test_a_manifest_folder_named_like_an_option_of_find_is_rejected(tmp_path):
     """`find -delete` would empty release/."""
     shutil.copytree(TOP / 'build', tmp_path / 'build')
     summed = run('sh', '-c', f'root={tmp_path}; . build/current.sh; sum_files -delete || echo "$why"')
@@ -59,7 +60,7 @@ def test_a_folder_that_the_manifest_names_is_no_option_of_find(tmp_path):
     assert (tmp_path / 'release/MANIFEST').exists()
 
 
-def test_a_link_of_a_page_is_no_command_of_sed(tmp_path):
+def test_a_link_on_a_page_runs_no_command_of_sed(tmp_path):
     (tmp_path / 'page.md').write_text(f'touch {tmp_path}/ran # [a](a|b|e;i) [b](other/page.md#c)\n', encoding='utf-8')
     came = run('bash', '-euc', f'root={tmp_path} address=https://a.example; . bindings/packages/pages.bash; cd $root;'
                'ship_pages made page.md')

@@ -1,6 +1,6 @@
-"""Commits: the subject is an imperative of at most 72 characters, the body says why, and nothing is merged. One that
-takes away more checks than it adds, as the lines that make them, or rows out of docs/promises-open.txt, says
-`Fewer checks: WHY`. Those before BEGUN were judged when they landed."""
+"""Commits: the subject is an imperative of at most 72 characters, the body says why, and nothing is merged. A commit
+that removes more lines with checks than it adds, or rows of docs/promises-open.txt, says `Fewer checks: WHY`. Commits
+before BEGUN were judged when they landed."""
 
 import re
 
@@ -8,12 +8,12 @@ import pytest
 from shared import run
 
 BEGUN, OPEN = '9eef5786', 'docs/promises-open.txt'
-# A line that makes a check, in what a commit takes away or adds: of pytest, of C, of Node, of CTest, or of Rattle: a
-# test, a mutant, or a row, which has a tab.
+# A line with a check that a commit removes or adds: for pytest, C, Node, CTest, or Rattle (a test, a mutant, or a row,
+# which has a tab).
 CHECK = r'^{} *(?:(?:async )?def test_|assert\b|check\w*\(|test\(|judge\w*\(|in_c\(|test_of\w*\(|planted\(' \
         r'|#\[test\]|refused \w+$|\S.*\t)'
 PLACES = '.ci', 'bindings', 'crates'
-# A verb that is an imperative, in a short subject; and words that only look like other forms of one.
+# A short subject that begins with no other form of a verb; `bring` only looks like one.
 SUBJECT = re.compile(r'(?=.{1,72}$)(?!(?:fix|features?|figures?)\b)'
                      r'(?!(?!(?:bring|embed|need|feed|focus)\b)\w+(?:ing|ed|[^s]s) )\S+ \S', re.I)
 
@@ -23,7 +23,7 @@ def is_well(parents, subject, body):
 
 
 def has_fewer(commit):
-    """Whether a commit leaves fewer rows of known faults, or takes away more lines that make checks than it adds."""
+    """Whether a commit removes rows of known faults, or more lines with checks than it adds."""
     opened = [run('git', 'show', f'{at}:{OPEN}').stdout.count(' | ') for at in (f'{commit}~', commit)]
     changed = run('git', 'show', '--unified=0', '--format=', commit, '--', *PLACES).stdout
     gone, new = (len(re.findall(CHECK.format(re.escape(sign)), changed, re.M)) for sign in '-+')
@@ -32,7 +32,7 @@ def has_fewer(commit):
 
 @pytest.mark.skipif(run('git', 'rev-parse', 'HEAD').returncode, reason='this is no repository of git with commits')
 def test_each_commit_says_what_and_why():
-    # (where the history is cut off before the first, those that are there)
+    # (in a shallow clone, those commits that are there)
     before = [f'^{BEGUN}~'] * (run('git', 'cat-file', '-t', f'{BEGUN}~').stdout == 'commit\n')
     for commit in run('git', 'rev-list', 'HEAD', *before).stdout.split():
         parents, subject, body = run('git', 'log', '-1', '--format=%P%n%s%n%b', commit).stdout.split('\n', 2)
@@ -43,5 +43,5 @@ def test_each_commit_says_what_and_why():
 @pytest.mark.parametrize('parents, subject, body', [
     ('a b', 'Merge it', 'Why'), ('a', 'Add it', ''), ('a', 'Added it', 'Why'), ('a', f'Add {"it" * 40}', 'Why'),
     ('a', 'Fix: add it', 'Why')])
-def test_a_wrong_message_is_found(parents, subject, body):
+def test_a_wrong_commit_message_is_rejected(parents, subject, body):
     assert is_well(['a'], 'Add it', 'Why') and not is_well(parents.split(), subject, body)

@@ -1,4 +1,4 @@
-"""What .ci/run makes of tests that pass, fail, are skipped, are missing, or would be changed by files beside them."""
+""".ci/run reports tests that pass, fail, are skipped, are missing, or would be changed by files beside them."""
 
 import re
 import shutil
@@ -9,7 +9,7 @@ from shared import TOP, run
 PASSES, SKIPS = 'judge(one QUICK COMMAND true)\n', 'judge(two QUICK COMMAND sh -c "echo late && exit 77")'
 NESTED = '''judge(in_c/it QUICK COMMAND sh -c "cmake -S c -B out/ctest/it && \
 ctest --test-dir out/ctest/it --output-junit ${CASES}/in_c/it.xml")'''
-# What CTest is to run | .ci/tests.txt | what has to be named | the last line.
+# What CTest runs | .ci/tests.txt | what the output names | the last line.
 RUNS = {
     'all pass': (PASSES, 'one | 1', '', '1 passed, 0 failed, 0 skipped'),
     'one fails': (f'{PASSES}judge(two QUICK COMMAND sh -c "echo 1 passed, 0 failed; exit 1")', 'one | 1\ntwo | 1',
@@ -62,7 +62,7 @@ add_test(NAME c COMMAND false)
 set_tests_properties(a PROPERTIES DISABLED ON)
 set_tests_properties(b PROPERTIES SKIP_RETURN_CODE 77)
 set_tests_properties(c PROPERTIES WILL_FAIL ON)'''
-# A plugin of pytest that drops tests, what has pytest load it, and a module in another one's place; what is named.
+# A pytest plugin that drops tests. Then files that load it or replace another module, and the expected message.
 DROPS = 'def pytest_collection_modifyitems(items):\n    del items[1:]\n'
 FORGED = {
     'an entry point': ({'it.egg-info/entry_points.txt': '[pytest11]\nit = plugin', 'it.egg-info/PKG-INFO': 'Name: it',
@@ -78,7 +78,7 @@ FORGED = {
 
 @pytest.fixture
 def tree(tmp_path):
-    """A repository of CI alone, where nothing has to be installed or taken away."""
+    """A repository with only CI's scripts, where nothing is installed or deleted."""
     for folder in ('.ci/shared', '.ci/gate'):
         shutil.copytree(TOP / folder, tmp_path / folder, ignore=shutil.ignore_patterns('test_*', '__pycache__'))
     for file in ('.ci/run', 'setup.cfg'):
@@ -103,7 +103,7 @@ def run_over(tree, tests, listed):
 
 
 @pytest.mark.parametrize('tests, listed, named, last', RUNS.values(), ids=RUNS)
-def test_the_last_line_says_what_came(tree, tests, listed, named, last):
+def test_the_last_line_counts_passed_failed_and_skipped_tests(tree, tests, listed, named, last):
     ran = run_over(tree, tests, listed)
     assert ran.stdout.splitlines()[-1] == last and named in ran.stdout
     assert (ran.returncode == 0) == (' 0 failed,' in last)
@@ -116,8 +116,8 @@ def test_a_file_that_could_change_tests_is_named_and_changes_none(tree, files, n
     assert ran.returncode and named in ran.stdout and '\n1 passed, ' in ran.stdout, ran.stdout
 
 
-def test_the_list_is_written(tree):
-    """The cases and the reasons that came, over a list that has neither."""
+def test_write_updates_the_cases_and_reasons_and_drops_old_tests(tree):
+    """It gets the run's cases and reasons, and loses tests that are gone."""
     run_over(tree, f'{PASSES}judge(test_idle.py QUICK)', '# The head\none | 7\none | some | rule\ngone | 1')
     assert run(tree / '.ci/gate/count', '--write', cwd=tree).returncode == 0
     assert (tree / '.ci/tests.txt').read_text(encoding='utf-8') == \
@@ -125,7 +125,7 @@ def test_the_list_is_written(tree):
 
 
 @pytest.mark.parametrize('file', ['build/clean', '.ci/gate/packages'])
-def test_what_comes_first_and_fails_ends_it(tree, file):
+def test_ci_stops_if_cleaning_or_installing_packages_fails(tree, file):
     (tree / file).write_text('#!/bin/sh\nexit 1\n', encoding='utf-8')
     ran = run_over(tree, PASSES, 'one | 1')
     assert ran.returncode and ran.stdout == f'{file}: FAILED\n0 passed, 1 failed, 0 skipped\n'

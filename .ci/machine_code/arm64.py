@@ -22,7 +22,7 @@ class Arm64(Machine):
 
     @staticmethod
     def fresh(when):
-        """The lower halves of vectors, of which some are kept, have names of their own: d0, and h0 is the upper one."""
+        """Vectors' halves have their own names, since some lower ones are preserved: d0 is lower, h0 upper."""
         return {f'{kind}{number}': variable(f'{when} {kind}{number}') for kind in 'xdh' for number in range(32)}
 
     def enter(self, address, *arguments, flag):
@@ -42,7 +42,7 @@ def vector(number, size):
 
 
 def operand(text):
-    """What reads a register or a number, and what writes it."""
+    """Functions that read and write a register or number."""
     if re.fullmatch(r'#-?(0x[0-9a-f]+|\d+)|0x[0-9a-f]+', text):
         number = int(text.removeprefix('#'), 0) & MASK
         return (lambda machine: number), None
@@ -177,7 +177,7 @@ def control(mnemonic, words):
 
 @functools.cache
 def decode(text):
-    """The step that an instruction is."""
+    """An instruction as a step."""
     mnemonic, _, rest = text.partition('\t')
     words = parts(rest)
     if mnemonic == 'nop':

@@ -1,4 +1,4 @@
-"""Forgeries, each made of a file of release/: most run other code than tools print."""
+"""Forgeries of files of release/: most run code that tools do not print."""
 
 import functools
 import io
@@ -50,7 +50,7 @@ def redirect_a_call(file, forged):
 
 
 def add_a_decoy(file, forged):
-    """The function that has the name is called by nothing that is called."""
+    """Nothing that is called calls the function with this name."""
     objects = [forged.with_name(name) for name in ('argon2_c.o', 'decoy.o')]
     run(require('ar'), 'x', f'--output={forged.parent}', file)
     fill, compress = (name for function in FUNCTIONS for name in code_of(file).names.values()

@@ -1,5 +1,5 @@
-"""Linked code for a machine and its constants, as binutils link and disassemble it. A loader and a linker go by other
-parts of a file than they do, and have to come to the same.
+"""A machine's linked code and its constants, as binutils link and disassemble them. Loaders and linkers read other
+parts of a file than binutils do, and have to find the same.
 
 LLVM made the code, so it is not LLVM that disassembles it: a fault in its tables could hide itself. Objects are linked
 first, so that nothing here has to resolve relocations."""
@@ -19,14 +19,14 @@ from machine import WORD
 from terms import MASK, Fault
 
 X86, ARM64, OBJECT = 62, 183, 1  # (numbers of ELF)
-# For each machine how the names of binutils begin, what objdump has to be told, and what runs and reads instructions.
+# For each machine: the prefix of binutils' names, objdump's options, and what runs and reads instructions.
 KINDS = {X86: ('', ('-M', 'intel'), x86.X86, x86.decode), ARM64: ('aarch64-linux-gnu-', (), arm64.Arm64, arm64.decode)}
 WINDOWS = 'x86_64-w64-mingw32-', *KINDS[X86][1:]
 # Where memset is in what is linked here of objects, which have no C library; its names elsewhere (build/link).
 OUTSIDE, CLEARS = 16, ('memset', 'memset@plt', 'proved_driver_memset', 'proved_sysv_memset')
 LINKS = ('ld', '--emit-relocs', '-zseparate-code', '--entry=0', '--unresolved-symbols=ignore-all',
          f'--defsym=memset={OUTSIDE}', '--whole-archive')
-# (a linker for Windows leaves nothing unresolved, and gcc knows what it needs)
+# (a Windows linker leaves nothing unresolved, and gcc knows what is needed)
 LINKS_FOR_WINDOWS = 'gcc-posix', '-shared', '-nostartfiles', '-Wl,--entry=0', '-Wl,--whole-archive'
 LABEL = re.compile(r'([0-9a-f]+) <(.*)>:')
 LINE = re.compile(r' *([0-9a-f]+):\t([0-9a-f ]+?) *\t(.*?)(?:\s*(?:# |//).*)?')
@@ -42,7 +42,7 @@ JUMP = re.compile(r'(?:[\w.]+ +)*(?:call|j\w+|loop\w*|xbegin|bl?(?:\.\w+)?|[ct]b
 # The instructions that each relocation of ARM64 may change, of which it writes an operand alone.
 RELOCATED = {275: 'adrp', 277: 'add', 282: 'b', 283: 'bl', 286: 'ldr', 299: 'ldr'}
 DISTANCE_SIZE = 4  # (in bytes)
-# What multiplies numbers of 32 bits in vectors: no other instruction makes blocks as fast.
+# The instructions that multiply 32-bit numbers in vectors: no others make blocks as fast.
 MULTIPLIES = re.compile(r'v?pmulu?dq |vpmullq |vpmadd52|[us]m(?:ul|la|ls)l2?\tv\d+\.2d')
 
 
@@ -101,8 +101,8 @@ class Code:
         self.clears = {OUTSIDE, *(begin for begin, name in self.names.items() if name in CLEARS)}
 
     def validate(self):
-        """What objdump has read is the code that is mapped, and all of it. Jumps, the loader and other programs lead to
-        instructions that were read: none is hidden in another."""
+        """objdump has read exactly the code that is mapped. Jumps, the loader and other programs lead to instructions
+        that were read: none is hidden in another."""
         rest = bytearray(self.content)
         for address, text in self.read_at.items():
             own = b''.join(bytes.fromhex(unit)[::-1] for unit in text.split())
@@ -169,7 +169,7 @@ class Code:
 
 
 def check_archive(path, prefix):
-    """It has to be what `ar` makes of the members that it has by their names: a linker goes by a table of symbols."""
+    """It has to be what `ar` makes of its named members, since a linker uses its symbol table."""
     ar, content = f'{prefix}ar', path.read_bytes()
     with tempfile.TemporaryDirectory() as folder:
         run(ar, 'x', f'--output={folder}', path)
@@ -184,7 +184,7 @@ def check_archive(path, prefix):
 
 
 def check_object(path, prefix):
-    """Whatever a linker puts around an object, its code is the one that is read here."""
+    """Whatever a linker puts around an object, it runs the code that is read here."""
     if path.read_bytes()[:4] == b'\x7fELF':
         return mapped.check_object(path)
     said = run(f'{prefix}objdump', '-r', '-t', path)

@@ -1,4 +1,4 @@
-"""What the machines have in common: memory, and a function that is run over terms instead of numbers."""
+"""What the machines have in common: memory, and running a function on terms instead of numbers."""
 
 import operator
 import re
@@ -6,7 +6,7 @@ import re
 from terms import BITS, MASK, Fault, joined, linear, variable
 
 WORD, LARGEST_UNIT = 8, 64
-# More than any function takes: instructions, and bytes of stack.
+# More instructions and bytes of stack than any function needs.
 STEPS, FRAME = 100_000, 1 << 14
 STACK, RETURN = variable('stack'), variable('return')
 CONDITIONS = {'e': operator.eq, 'ne': operator.ne, 'b': operator.lt, 'ae': operator.ge, 'a': operator.gt,
@@ -16,8 +16,8 @@ CONDITIONS = {'e': operator.eq, 'ne': operator.ne, 'b': operator.lt, 'ae': opera
 class Machine:
     """A processor that begins a function. Its registers hold terms. Memory is of regions: the stack, and those that the
     function is passed, by their size in bytes, of which it may write `written` alone."""
-    # Where integers are passed, the stack pointer, what a function leaves as it was, what of its caller's stack is its
-    # own, and where the stack pointer may be when it begins, in bytes above a multiple of the largest alignment.
+    # Where integers are passed, the stack pointer, what a function has to preserve, the part of its caller's stack that
+    # it owns, and where the stack pointer may be at its start, in bytes above a multiple of the largest alignment.
     arguments, stack_pointer, saved, own_of_caller, entries = (), '', (), 0, ()
 
     def __init__(self, code, regions, written, entry):
@@ -43,7 +43,7 @@ class Machine:
         raise Fault(f'it has not returned after {STEPS} instructions')
 
     def find(self, word):
-        """The region of what is an address, and how far in it that is; or None."""
+        """An address's region, and its offset in that; or None."""
         number, terms = linear(word)
         (base, factor), = terms.items() if len(terms) == 1 else [(STACK, 0)]
         if factor != 1 or base is not STACK and base.parts[0] not in self.regions:
@@ -88,11 +88,11 @@ class Machine:
         """What memset does."""
         if not isinstance(size, int) or size % WORD or byte != 0:
             raise Fault('it fills memory with other than words of zero')
-        # (which are looked for first, since a wrong size may be more words than there is memory for)
+        # (looked up first, since a wrong size may exceed memory)
         self.store(address, [0] * len(self.places(address, size // WORD, WORD)))
 
     def clear_words(self):
-        """A call of memset, which may leave in the other registers what it likes."""
+        """A call of memset, which may change the other registers."""
         self.clear(*(self.registers[name] for name in self.arguments[:3]))
         back, self.flags = self.return_address(), None
         preserved = *self.saved, self.stack_pointer
@@ -100,7 +100,7 @@ class Machine:
         return back
 
     def masked(self, word, mask):
-        """An and; of an address of the stack too, whose lowest bits are known."""
+        """AND; also of a stack address, whose lowest bits are known."""
         region, at = self.find(word) or (None, 0)
         if region != 'stack' or not isinstance(mask, int) or MASK - mask >= LARGEST_UNIT:
             return word & mask
@@ -110,14 +110,14 @@ class Machine:
         self.flags = (one, other) if isinstance(one, int) and isinstance(other, int) else None
 
     def holds(self, condition):
-        """Whether a condition does, which may depend on numbers alone."""
+        """Whether a condition holds, which may depend only on numbers."""
         if self.flags is None or condition not in CONDITIONS:
             raise Fault(f'it depends on data, or the condition {condition} is not known')
         return CONDITIONS[condition](*self.flags)
 
     def fault(self, words, cleared):
-        """What is wrong with what a function left, which had to be words in the region that is written, and so many
-        zeros in its own frame."""
+        """What is wrong with a function's results, which have to be words in the written region, and this many zeros in
+        its own frame."""
         wrong = [at for at, word in enumerate(words) if self.word_at(self.written, WORD * at) != word]
         changed = [name for name in (*self.saved, self.stack_pointer) if self.registers[name] != self.before[name]]
         zeros = sum(region == 'stack' and word == 0 for (region, _), word in self.memory.items())

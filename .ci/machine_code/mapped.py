@@ -19,7 +19,7 @@ TAGS = {f'DT_{name}' for name in (
     'FINI_ARRAYSZ PLTGOT PLTREL PLTRELSZ JMPREL RELA RELASZ RELAENT RELACOUNT FLAGS FLAGS_1 VERDEF VERDEFNUM VERNEED '
     'VERNEEDNUM VERSYM').split()}
 ALLOWS_TEXTREL = 4  # (of FLAGS)
-# The types of sections that an object may have. The last one is LLVM's table of symbols whose address matters.
+# The types of sections that an object may have. The last is LLVM's table of address-significant symbols.
 SECTIONS = {*(f'SHT_{name}' for name in 'NULL PROGBITS NOBITS RELA SYMTAB STRTAB'.split()), 0x6fff4c03}
 # A linker may write only distances to symbols into code and constants: the relocations that do so, for each machine.
 # Objects with a checked function refer to their own symbols, and to these functions of a C library.
@@ -89,8 +89,8 @@ def check_segments(loaded):
 
 
 def check_slack(content, loaded):
-    """A system maps whole pages, so what stands beside code in its pages has to be zero. Only where another segment
-    begins or ends in such a page, as in programs that the toolchain links, nothing is known of it."""
+    """A system maps whole pages, so anything beside code in its pages has to be zero. Nothing is known only if another
+    segment begins or ends there, as in programs that the toolchain links."""
     for segment in loaded:
         unit, begin, end = max(segment['p_align'], PAGE), segment['p_offset'], segment['p_offset'] + segment['p_filesz']
         first, last = begin // unit * unit, -(-end // unit) * unit
@@ -101,7 +101,7 @@ def check_slack(content, loaded):
 
 
 def called_by_loader(elf, variables):
-    """Addresses that its loader, or a program that loads it, may call. Fails where the loader writes to other than
+    """Addresses that its loader, or a program that loads it, may call. Fails if the loader writes anything except
     variables."""
     tables = [segment for segment in elf.iter_segments() if segment['p_type'] == 'PT_DYNAMIC']
     if len(tables) > 1 or any(next(elf.address_offsets(table['p_vaddr']), None) != table['p_offset']

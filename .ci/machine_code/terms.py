@@ -1,5 +1,5 @@
-"""Words of 64 bits as terms over variables, in a normal form: words of one form are equal for all values of the
-variables. Of words of two forms nothing is known. Numbers are Python's, below 2^64."""
+"""Words of 64 bits as terms over variables, in a normal form: words of the same form are equal for all values. Nothing
+is known of words of different forms. Numbers are Python's, below 2^64."""
 
 import functools
 from itertools import accumulate, chain, pairwise
@@ -9,12 +9,12 @@ MASK = (1 << BITS) - 1
 
 
 class Fault(Exception):
-    """What is wrong with code, or not known of it."""
+    """What is wrong with code, or is unknown."""
 
 
 class Term:
-    """A word that is no number. Of each form there is one object, which `make` gives. Its parts are: of a `variable`
-    its name; of a `sum` and of an exclusive or (`xor`) a number and the other terms, in a sum with their factors; of a
+    """A word that is no number. Each form has one object, which `make` returns. Its parts are: of a `variable` its
+    name; of a `sum` and of an exclusive or (`xor`) a number and the other terms, in a sum with their factors; of a
     `product` its factors; of `bits` pieces of other words, from the lowest on: (word, first bit, number of bits)."""
     __slots__ = 'kind', 'parts'
 
@@ -76,7 +76,7 @@ def variable(name):
 
 
 def forget():
-    """Frees all terms: those that are still held are no longer the ones that `make` gives."""
+    """Frees all terms: `make` no longer returns those that are still held."""
     for cached in (make, cut, *(method for method in vars(Term).values() if hasattr(method, 'cache_clear'))):
         cached.cache_clear()
 
@@ -136,7 +136,7 @@ def cut(word, first, width):
 
 
 def joined(*pieces):
-    """The word that pieces make. Of pieces of one exclusive or it is that of the same pieces of its terms."""
+    """The word that pieces make. For pieces of one XOR, it is the XOR of its terms' pieces."""
     found = []
     for word, first, width in (piece for piece in pieces if piece[2]):
         last, begin, size = found[-1] if found else (None, 0, 0)

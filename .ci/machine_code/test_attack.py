@@ -1,7 +1,7 @@
-"""Attacks what test_machine_code.py judges by: of both functions of each build a bit of every byte of the constants,
-and bits of drawn instructions until `DRAWN` are others of the same length. Each change has to be found, or else to
-compute the same, for drawn numbers too. Each forgery of forged.py has to be found. What is drawn is by SEED of the
-environment, or else by one that is printed.
+"""Attacks test_machine_code.py: in both functions of each build, it changes a bit of each byte of the constants, and
+bits of random instructions until `DRAWN` are others of the same length. Each change has to be found, or to compute the
+same, for random numbers too. Each forgery of forged.py has to be found. SEED of the environment, or a printed one,
+determines what is random.
 """
 
 import copy
@@ -28,11 +28,11 @@ FILES = 'x86_64/libproved_argon2.a', 'aarch64/libproved_argon2.a', 'wasm32/prove
 # This module has the same instructions, but for the numbers of the functions that are called.
 SAME = 'wasm32/proved_argon2_shared.wasm'
 DRAWN, UNTIL_FORGOTTEN, SHARED, WINDOWS = 300, 100, 'x86_64/libproved_argon2.so.1.0.0', 'windows-x86_64'
-# The instructions that have constants of the definitions in them, and in which bytes.
+# The instructions that contain constants of the definitions, and in which bytes.
 WIDE = (re.compile('movabs .*'), 2, 10), (re.compile(r'movk\t.*|mov\tx\d+, #0x[0-9a-f]{3,}'), 0, 4), \
     (re.compile(r'i64\.const -?\d{11,}'), 1, 11)
 OBJECT = f'{machines()["x86_64"].proved[-1]}/libargon2_c.a'
-# Each forgery is made of a file, and is found by what is said of it.
+# Each forgery: its file, and the message that finds it.
 FORGERIES = (
     ('x86_64/libproved_argon2.so.1.0.0', forged.lead_sections_to_a_copy, 'the code that is read is not what is mapped'),
     ('x86_64/libproved_argon2.a', forged.hide_a_member, 'it is not the archive that its members make'),
@@ -161,14 +161,14 @@ def without_collection():
 
 @pytest.mark.parametrize('function', FUNCTIONS, ids=lambda function: function.name)
 @pytest.mark.parametrize('name', FILES)
-def test_each_change_is_found(name, function):
+def test_each_change_is_found_or_computes_the_same(name, function):
     code = code_of(RELEASE / name)
     begins = code.begins(function)
     assert len(begins) == len(builds_of(RELEASE / name))
     for begin in begins:
         own = f'{SEED} {name}, {function.name} at {begin}'
         print('seed', own)
-        random.seed(own)  # (so that what is drawn for one depends on no other)
+        random.seed(own)  # (so that no draw depends on another test)
         attacked = Attacked(code, function, begin)
         attacked.draw()
         attacked.change_constants()
@@ -177,7 +177,7 @@ def test_each_change_is_found(name, function):
 
 
 def test_both_modules_have_the_same_instructions():
-    """So one attack is on both."""
+    """So one attack covers both."""
     texts = [[re.sub(r'^call .*', 'call', text) for function in FUNCTIONS for begin in code.begins(function)
               for text, _ in code.bodies[begin].values() if not text.startswith('local[')]
              for code in (code_of(RELEASE / name) for name in (FILES[-1], SAME))]
@@ -198,8 +198,8 @@ def test_each_forgery_is_found(tmp_path, name, forge, expected):
     (arm64.decode, 'usra\tv1.2d, v1.2d, #24', 'usra\tv1.4s, v1.4s, #24'),
     (arm64.decode, 'sri\tv1.2d, v1.2d, #24', 'sri\tv1.4s, v1.4s, #24'),
     (arm64.decode, 'umlal2\tv1.2d, v1.4s, v1.4s', 'umlal2\tv1.4s, v1.8h, v1.8h')])
-def test_another_form_is_rejected(decode, known, other):
-    """An instruction for words of 64 bits has forms for fewer words, or narrower ones, which compute something else."""
+def test_forms_of_an_instruction_for_other_widths_are_rejected(decode, known, other):
+    """An instruction for 64-bit words has forms for fewer or narrower words, which compute something else."""
     machine = SimpleNamespace(registers={'mm1': (1,) * 8, 'd1': 1, 'h1': 1})
     decode(known)(machine)
     with pytest.raises(Fault):

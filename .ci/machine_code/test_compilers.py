@@ -1,6 +1,6 @@
-"""Whether the library for C gives the same as two compilers make it: LLVM, and the toolchain's own, which shares
-nothing with LLVM and makes nothing that is released. For each processor both have to answer calls whose settings and
-inputs are drawn from a seed (SEED of the environment) as libargon2 does, and the other one's has to give the vectors.
+"""The library for C returns the same from two compilers: LLVM, and the toolchain's own, which shares nothing with LLVM
+and makes nothing that is released. For each processor, both libraries have to answer random calls (from SEED of the
+environment) as libargon2 does, and that of the toolchain's compiler has to return the vectors.
 """
 
 import os
@@ -14,7 +14,7 @@ from shared import TOP, has_processor, output_of
 
 MACHINE, ARCHIVE, OTHER = machines()['x86_64'], 'libargon2_c.a', TOP / 'out/rattle'
 THEIRS = '/usr/lib/x86_64-linux-gnu/libargon2.so.1'
-# Of four kinds of calls so many each.
+# This many of each of four kinds.
 DRAWN, SEED = 4 * 10_000, os.environ.get('SEED') or str(random.randrange(1 << 32))
 
 
@@ -33,7 +33,7 @@ def libraries(built):
 
 @pytest.fixture(params=MACHINE.builds)
 def python(request):
-    """Python, which calls the library by a build. That for AVX-512 is the same in both libraries."""
+    """Python, which calls one build of the library. The AVX-512 build is the same in both."""
     if not has_processor(request.param):
         pytest.skip(f'the processor is older than {request.param}')
     return ['env', f'PROVED_ARGON2_CPU={request.param}', 'PYTHONPATH=bindings/python/src', sys.executable, '-B']
@@ -44,6 +44,6 @@ def test_drawn_calls_are_answered_as_by_libargon2(libraries, python):
               *(folder / 'libargon2.so.1' for folder in libraries.values()))
 
 
-def test_the_other_gives_the_vectors(libraries, python):
+def test_the_library_of_the_toolchain_s_compiler_returns_the_vectors(libraries, python):
     output_of('env', f'PROVED_ARGON2_LIBRARY={libraries["the other"]}/libproved_argon2.so', *python, '-m', 'pytest',
               '-q', 'bindings/python/tests/test_vectors.py')

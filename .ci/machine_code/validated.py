@@ -1,4 +1,4 @@
-"""The two functions, with their definitions (crates/argon2_vectors), and a run of one over terms."""
+"""The two functions, their definitions (crates/argon2_vectors), and a run of one on terms."""
 
 import re
 from dataclasses import dataclass
@@ -28,7 +28,7 @@ def compressed_state(flag, h, m, counter):
 class Function:
     """A function's name; what it is passed before the flag: regions of memory, by their sizes in words, and words; what
     it leaves in one of the regions; and how many words of its own frame it clears. In a module, which may have no
-    names, it is the one with some instructions. So many instructions call it, in each build."""
+    names, certain instructions identify it. In each build, this many instructions call it."""
     name: str
     regions: dict
     words: tuple
@@ -54,7 +54,7 @@ class Function:
             defined = self.definition(flag, *regions.values(), *([words] if words else []))
             return machine, machine.fault(defined, self.cleared)
         except (Fault, TypeError, ValueError, LookupError, AttributeError) as fault:
-            # (a changed instruction can make anything of an operand; what cannot be run is wrong)
+            # (a changed instruction may have any operand; if it cannot run, it is wrong)
             return machine, f'{fault} ({machine.after:#x})'
 
 
@@ -66,7 +66,7 @@ FUNCTIONS = (
 FLAGS = 0, 1
 
 
-# What does nothing, and need not be run.
+# Instructions that do nothing, and need not run.
 IDLE = re.compile(r'local\[|end$|unreachable$|(data16 |cs )*nop|xchg +ax,ax|int3')
 
 

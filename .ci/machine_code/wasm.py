@@ -18,7 +18,7 @@ CODE = re.compile(r' +Code start=\w+ end=(\w+) ')
 NAMED = re.compile(r'  \((import|export) ')
 LINE = re.compile(r' ([0-9a-f]+):((?: [0-9a-f]{2})+) +\| *(.*)')
 OPENS, LOW = ('block', 'loop'), (1 << 32) - 1
-# With so many multiplications a function can make blocks; sizes and numbers in texts take fewer.
+# A function with this many multiplications can make blocks; sizes and numbers in strings need fewer.
 MANY = 8
 # The global that is the stack pointer, how much of the stack a function asks for, and that this is not there.
 STACK_POINTER, LEAST_STACK, NO_STACK = '0', 16, variable('the stack has no room')
@@ -68,8 +68,8 @@ class Module:
         return self.traps(address + size) if text == 'end' else text == 'unreachable'
 
     def validate(self):
-        """It is a module, and what wasm-objdump has read is its code. It prints names as they are, so the end of a line
-        in one could show other code. A released module has only the names of its imports and exports."""
+        """It is a module, and wasm-objdump has read its code. That prints names unchanged, so a line end in one could
+        show other code. A released module has only the names of its imports and exports."""
         run('wasm-validate', '--enable-memory64', '--enable-threads', self.path)
         with tempfile.NamedTemporaryFile() as stripped:
             run('wasm-strip', '-o', stripped.name, self.path)
@@ -80,7 +80,7 @@ class Module:
             raise Fault('it has a control character in a name')
         begins = {min(body) for body in self.bodies.values()}
         for (at, own), (after, _) in pairwise([*sorted(self.read_at.items()), (self.end, b'')]):
-            # (in front of a function stands its size, and how many kinds of variables it has)
+            # (a function's size and its number of kinds of variables precede it)
             if self.content[at:at + len(own)] != own or not 0 <= after - at - len(own) <= 6 * (after in begins):
                 raise Fault('the code that is read is not that of the file')
 
@@ -165,7 +165,7 @@ class Wasm(Machine):
         return function(self, *operands[::-1], *map(int, words[1:]))
 
     def move(self, name, number):
-        """What a variable has, or what is written to it."""
+        """A variable's value, or what is written to it."""
         if name.startswith('global') and number != STACK_POINTER:
             raise Fault(f'it uses the global {number}')
         match name:
@@ -185,7 +185,7 @@ class Wasm(Machine):
         return word if self.find(word) else word & LOW
 
     def lacks_stack(self, least, at):
-        """It is asked before anything else whether the stack has room, which is so."""
+        """The first question is whether the stack has room, and it has."""
         if least != LEAST_STACK or (self.find(at) or [''])[0] != 'stack':
             raise Fault('it compares data')
         return NO_STACK

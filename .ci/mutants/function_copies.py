@@ -1,4 +1,4 @@
-"""Mutants in copies of their functions, and what the checker says of a crate with such copies in it."""
+"""Mutants in copies of their functions, and the checker's report on a crate with such copies."""
 
 import re
 
@@ -9,8 +9,8 @@ UNPROVED = re.compile(r'^note: \S+: it is not proved that .*?\(`([^`]+)`\)', re.
 SEARCHED = re.compile(r'`search` did not prove (`[^`]+`(?:, `[^`]+`)*)')
 # How a message begins where a proof file names what an edit took away.
 NAMES = re.compile(r'has no field|is not in scope|has no `|was not admitted|^(?:`[^`]*`: )?record `[^`]*`')
-# For a function with an open goal and no fault in its answers the checker searches once more, for proofs to offer to an
-# author. So the answers of a wrong body get a fault, and the body is judged by the goals that are left.
+# If a function has an open goal and no fault in its answers, the checker searches again, for proofs to offer to the
+# author. So we put a fault into a wrong body's answers, and judge the body by its open goals.
 NO_OFFERS = 'no_offers'
 FAULT = f'\n{NO_OFFERS} : NoOffers\n{NO_OFFERS} = {NO_OFFERS}\n'
 
@@ -27,7 +27,7 @@ class Copy:
         self.text = re.sub(rf'\bfn {self.function.name}\b', f'fn {self.name}', text, count=1)
 
     def is_called(self, place):
-        """Whether the checker calls it so, or a closure in it."""
+        """Whether this is the checker's name, also for closures."""
         return self.name in place.split('::')
 
     def proofs(self, folder):
@@ -45,7 +45,7 @@ class Copy:
 
 
 def can_be_copied(edit, folder):
-    """Whether an edit changes the body of one function alone, which is no trait's and does not call itself."""
+    """Whether an edit changes only one function's body, which is not a trait's and does not call itself."""
     function = edit.function
     is_of_trait = function is None or function.owner and ' for ' in function.owner
     if edit.is_of_theorem or {*edit.functions} != {function} or is_of_trait:
@@ -79,24 +79,24 @@ class Report:
         return '{}:{}: {}'.format(*self.errors[0]) if self.errors else self.last
 
     def is_refused(self, place):
-        """Whether a function is refused on its own account."""
+        """Whether a function is refused for its own faults."""
         said = self.verdicts.get(place, '')
         is_refused = said.startswith(('not proved', 'no proof')) and not BY_A_CALL.match(said)
         return is_refused and not (self.has_fault(place) and not any(self.goals_left(place)))
 
     def errors_of(self, place):
-        """What is said of a function's proofs: one that calls itself has a mark before its name."""
+        """The errors in a function's proofs: recursive functions have a mark before their name."""
         *folders, name = place.split('::')[1:]
         folders = tuple('/'.join(['proofs', *folders, mark + name, '']) for mark in ('', '+'))
         return [error for error in self.errors if error[0].startswith(folders)]
 
     def has_fault(self, place):
-        """Whether its answers have the fault that is put there."""
+        """Whether its answers have the fault that was planted."""
         return any(map(is_put_there, self.errors_of(place)))
 
     def goals_left(self, place):
-        """The goals of a function that are left unproved and why, and those whose proof only names what is gone. For a
-        gone name in a `use` the checker names no goal."""
+        """A function's unproved goals with the reasons, and those whose proof only names something missing. For a
+        missing name in a `use`, the checker names no goal."""
         left, named = dict.fromkeys(self.unproved.get(place, []), 'it is not proved'), {}
         for goals in SEARCHED.findall(self.verdicts.get(place, '')):
             left.update(dict.fromkeys(re.findall(r'`([^`]+)`', goals), 'search did not prove it'))

@@ -49,12 +49,12 @@ def judged(top):
 
 
 @pytest.mark.parametrize('crate, name, begin', [(*edit[:2], edit[-1]) for edit in EDITS])
-def test_each_edit(judged, crate, name, begin):
+def test_each_edit_gets_the_expected_verdict(judged, crate, name, begin):
     assert judged[0] == 1 and judged[1][f'{crate}/{name}'].startswith(begin)
 
 
-def test_others(top, judged):
-    """An edit by its name, and a name that none has. What is kept is left."""
+def test_a_named_edit_is_judged_and_an_unknown_name_fails(top, judged):
+    """An edit by its name, and an unknown name. Kept work stays unchanged."""
     before = files_of(top / 'crates/sample/out/incremental')
     (status, good), (wrong, none) = run(top, 'good'), run(top, 'good', 'no_such_edit')
     assert status == 0 and good == {'sample/good': judged[1]['sample/good']}
@@ -62,8 +62,8 @@ def test_others(top, judged):
     assert before and files_of(top / 'crates/sample/out/incremental') == before
 
 
-def test_what_was_judged_well_is_known_until_something_changes(top, judged):
-    """Not so what was not."""
+def test_an_edit_that_passed_is_judged_again_only_if_something_changes(top, judged):
+    """Others are judged again."""
     good, harmless = ({name: judged[1][name]} for name in ('sample/good', 'sample/harmless'))
     assert [run(top, *words, 'good') for words in (['--kept'], ['--kept'], [])] == [(0, good), (0, {}), (0, good)]
     assert run(top, '--kept', 'harmless') == run(top, '--kept', 'harmless') == (1, harmless)

@@ -1,7 +1,7 @@
 """What pages claim of the sources and of the toolchain: what depends on secrets (bindings/c/tests/secrets/depends.txt),
 what the prover takes without proof, and the hash of each group of files of pinned.txt.
 
-No test finds that those files accept one password more than the proved calls do, so each change of them has to be seen.
+No test would notice if those files accepted one more password than the proved calls, so each change must be visible.
 """
 
 import hashlib
@@ -17,18 +17,18 @@ from shared.sources import crates
 from toolchain import is_current
 
 CLAIMS, PINNED = 'docs/CLAIMS.md', '.ci/pages/pinned.txt'
-# The parts of the logic, whose axioms are named; and what makes machine code of what is proved.
+# The parts of the logic whose axioms are listed. Then the programs that compile proved code.
 PARTS = 'antt/lib', 'antt/port/mathlib', 'antt/port/seplogic', 'logic'
 COMPILERS = {'bin/rattle': 'the prover, with its back ends',
              'toolchain/bin/clang': "LLVM's clang, which one of them uses"}
-# What is built of what is proved, with the crate whose proof it rests on. Beside it stands what was said of that.
+# The files built from proved code, with the crate whose proof they rest on. The prover's report is beside each.
 NEWEST = machines()['x86_64'].proved[-1]
 PROGRAM = 'The program'
 BUILT = {'The archive for C': ('argon2_c', f'{NEWEST}/libargon2_c.a'),
          'The WebAssembly modules': ('argon2_c', 'wasm64-unknown-unknown/libargon2_c.a'),
          PROGRAM: ('argon2_program', f'{NEWEST}/argon2_program'),
          "The shell's tool": ('argon2_tool', f'{NEWEST}/argon2_tool')}
-# The crate that rests on no function of C, and calls no others than the compiler puts in for copies and zeros.
+# The crate that rests on no C function, and calls only those that the compiler inserts for copies and zeros.
 WITHOUT_AXIOMS, OF_THE_COMPILER = 'argon2_c', {'memcpy', 'memmove', 'memset'}
 
 
@@ -55,8 +55,8 @@ def report_of(crate, built):
 
 
 def lines_of(crate, built, report):
-    """What a proof loads and takes as it is, and what is called once it is built; of a WebAssembly module that is seen
-    by what it imports (bindings/wasm/tests)."""
+    """What a proof loads and assumes, and what the built file calls. What a WebAssembly module calls is seen by its
+    imports (bindings/wasm/tests)."""
     verdict = report.splitlines()[-1].split()
     called = set() if 'wasm' in built else {
         *re.findall(r'^\w+$', run('nm', '-u', '-j', TOP / 'bindings/out' / built).stdout, re.M)}
@@ -81,7 +81,7 @@ def declared(path, top):
 
 
 def write_reports(top):
-    """docs/reports.txt. Where one is not built its list stays as it is."""
+    """Writes docs/reports.txt. If any is not built, all lists stay."""
     fill(REPORTS, 'the toolchain', lines_of_the_toolchain(top), 'assumptions')
     reports = {name: report_of(*which) for name, which in BUILT.items()}
     lacking = [name for name, report in reports.items() if not report]

@@ -1,4 +1,4 @@
-"""What the generators and the tests of this folder share: how they read and write files, and a copy to do so in."""
+"""What this folder's generators and tests share: functions that read and write files, and a copy of the repository."""
 
 import os
 import re
@@ -17,7 +17,7 @@ FIRST, HOW_TO_CHANGE, PROMISES, REPORTS = 'README.md', 'CONTRIBUTING.md', 'docs/
 
 
 def require(is_well, fault):
-    """Ends at something that cannot be written as it is."""
+    """Exits if something cannot be written."""
     if not is_well:
         sys.exit(f'.ci/pages/write: {fault}')
 
@@ -62,8 +62,7 @@ def wrapped(text, indent=''):
 
 
 class Copy:
-    """A copy of the repository, with what is not ignored and what build/make has left; git knows its files as they are
-    here."""
+    """A copy of the repository: all files that git does not ignore, staged there, and what build/make has built."""
 
     def __init__(self, folder):
         self.top = folder / 'copy'
@@ -78,12 +77,12 @@ class Copy:
         return output_of(*words, cwd=self.top)
 
     def change(self, file, old, new):
-        """Puts a text in the place of what fits a pattern, or makes a file."""
+        """Replaces what matches a pattern, or creates a file."""
         text, count = re.subn(old, lambda _: new, (self.top / file).read_text(encoding='utf-8')) if old else (new, 1)
         assert count == 1, f'{file} has {old} {count} times'
         (self.top / file).write_text(text, encoding='utf-8')
 
     def assert_is_current(self):
-        """What scripts write is as they write it."""
+        """Fails if `.ci/pages/write` changes anything."""
         self.run('.ci/pages/write')
         self.run('git', '--no-pager', 'diff', '--exit-code')

@@ -1,9 +1,9 @@
-"""docs/DEFINITIONS.md's lists: the files of definitions on which the clauses of the calls rest, for each of four doors:
-the root calls of Rattle, those for C without the steps of a hash and with them, and the program.
+"""Writes the lists of docs/DEFINITIONS.md: the files of definitions on which calls' clauses rest, for each of four
+doors: Rattle's root calls, the calls for C without and with the steps of a hash, and the program.
 
-A clause rests on the files of the names that it has, and a file on those from which it imports. It ends at an import
-that is not understood, or of a name that is not defined there, and where the root calls rest on others than the files
-of the folders Standard. That a definition changed is seen by pinned.txt, a contract by what is quoted or its hash.
+A clause rests on the files that define its names, and a file on those that it imports from. The script fails at an
+import that it does not understand, at an undefined name, and if root calls rest on files outside of the folders
+Standard. pinned.txt shows a changed definition; the quoted text or its hash shows a changed contract.
 """
 
 import functools
@@ -15,8 +15,8 @@ from common import TOP, fill, link, quoted, read, require, row, wrapped
 from shared.sources import Sources, crates
 
 PAGE = 'docs/DEFINITIONS.md'
-# The calls of one step of a hash, which the driver makes where it has threads or a callback, with the theorem that
-# joins them; and the calls whose contracts the page prints: the others have places.
+# The calls for one step of a hash, which the driver makes if it has threads or a callback, and the theorem that joins
+# them. Then the calls whose contracts the page prints; it links the others.
 STEPS = ['proved_argon2_job_begin', 'proved_argon2_job_fill', 'proved_argon2_job_finish', 'proved_argon2_job_verify',
          'any_order_of_steps']
 PRINTED = ['hash_raw', 'verify_encoded_within', 'proved_argon2_hash_over', 'proved_argon2_verify_over']
@@ -40,7 +40,7 @@ def definitions_of(file):
 
 @functools.cache
 def imports_of(text):
-    """Our definitions that a text imports: by a name there the file that defines it."""
+    """The file of each of our definitions that a text imports, by its name."""
     found, files = IMPORT.findall(text), {}
     require(len(found) == len(re.findall(BEGIN, text, re.M)), f'an import is not understood: {text[:300]}')
     for module, names in found:
@@ -55,7 +55,7 @@ def imports_of(text):
 
 
 def closure(found, following):
-    """What is found, what follows from each of it, and so on."""
+    """What is found, and everything that follows from it."""
     met = set()
     while found:
         met |= found
@@ -64,7 +64,7 @@ def closure(found, following):
 
 
 def reached_from(text, imports):
-    """The files of the names that a text has, with those from which they import."""
+    """The files that define a text's names, and those they import from."""
     words = {*re.findall(r'[^\s(){}\[\],;.@]+', text)}
     own = {file for name, file in imports_of(imports).items() if words.issuperset(filter(None, name.split('◌')))}
     return closure(own, lambda file: imports_of(read(file)).values())
@@ -80,7 +80,7 @@ def views_of(names):
 
 
 class Door:
-    """One way in: its calls, and the files on which their clauses, and the views of the types there, rest."""
+    """An interface: its calls, and the files on which their clauses and their types' views rest."""
 
     def __init__(self, calls):
         self.calls = calls

@@ -1,4 +1,4 @@
-"""The facts that several files have, in each place of presets.txt: presets (crates/argon2_standard/src/config.rt),
+"""Writes facts that several files repeat, to each place of presets.txt: presets (crates/argon2_standard/src/config.rt),
 default limits (crates/argon2/src/limits.rt), the most threads of a stored string (stored.rt beside it), errors
 (crates/argon2_c/errors.txt), the options of C (the header), builds (build/machines.txt), the version (VERSION), who
 publishes this (PROJECT), the kits (build/kits.txt), and what runs the library as C (bindings/c/targets)."""
@@ -27,7 +27,7 @@ TYPES = {
 }
 # The errors from 64 on that Go's calls return.
 OTHERS_OF_GO = 'too_costly', 'no_random_bytes', 'old_processor'
-# What may stand for the value of a mark, of some by the mark; and between two words.
+# Patterns for a mark's value, some by the mark's name, and for the blank between words.
 VALUE, BLANK = r'\d(?:[\d_,]*\d)?(?: [KMG]iB)?', r'\s+(?:(?:///|//|#|\*|--) )?'
 OF_MARK = {'.': r'[^\d().]{1,40}', 'v': r'\d+\.\d+\.\d+', **dict.fromkeys('ngh', r'[\d_]+'), 'logic': r'\w+',
            **dict.fromkeys(('memory', 'work'), r'\d+ [KMG]iB'), 'Name': '[^\n"]*?', 'Publisher': '[^\n"<]*?',
@@ -36,7 +36,7 @@ OF_MARK = {'.': r'[^\d().]{1,40}', 'v': r'\d+\.\d+\.\d+', **dict.fromkeys('ngh',
 
 
 def one_line(text):
-    """A text in which comments' beginnings, blanks and ends of lines are one blank."""
+    """A text whose comment signs, blanks and line ends are single blanks."""
     return re.sub(BLANK, ' ', text)
 
 
@@ -64,8 +64,8 @@ def memory_of(kib):
 
 
 def default_limits():
-    """The same by the default limits, <q> the most passes with all memory and <k> the most memory with all passes. A
-    capital letter is one more."""
+    """What each mark means for the default limits: <q> the most passes with all memory, <k> the most memory with all
+    passes. Capital letters mean one more."""
     text = read('crates/argon2/src/limits.rt').partition('fn default() -> Limits')[2]
     grouped = dict(zip('mtpw', re.findall(r': (\d[\d_]*),', text)))
     m, t, p, w = (int(value.replace('_', '')) for value in grouped.values())
@@ -77,7 +77,7 @@ def default_limits():
 
 
 def project():
-    """The same by the version and who publishes this."""
+    """What each mark means for version and publisher."""
     found, version = dict(re.findall(r'^(\w+): (.+)$', read('PROJECT'), re.M)), read('VERSION').strip()
     major, minor, patch = map(int, version.split('.'))
     number = major * 1_000_000 + minor * 1000 + patch
@@ -88,7 +88,7 @@ def project():
 
 
 def options():
-    """The same by a field of the options for C."""
+    """What each mark means, for each C option."""
     header = read('bindings/c/include/proved_argon2_threads.h')
     inside = re.search(r'struct proved_argon2_options \{\n(.*?)^\}', header, re.S | re.M)[1]
     return [{'name': name, 'declared': declared, **dict(zip(('rust', 'zero', 'python'), TYPES[kind.strip()]))}
@@ -96,7 +96,7 @@ def options():
 
 
 def builds(machine):
-    """The same by all builds for a machine, of which one is chosen at run time, and by each, the oldest first."""
+    """What each mark means for all builds of a machine together, and for each build, the oldest first."""
     each = [{'name': build, 'word': build.replace('-', '_'), 'WORD': build.replace('-', '_').upper(),
              'FLAGS': ', '.join(flags).upper(), 'flags': ' '.join(flags)}
             for build, flags in flags_of_builds().items() if build in machine.builds]
@@ -106,7 +106,7 @@ def builds(machine):
 
 
 def errors():
-    """The same by an error; <pad> stands before the comments of the header, which are below one another in a list."""
+    """What each mark means for each error; <pad> aligns the comments of the header's list below one another."""
     found = [line.split(' | ', 3) for line in lines(TOP / 'crates/argon2_c/errors.txt')]
     snake = {name: re.sub(r'(?<!^)(?=[A-Z])', '_', name) for _, name, *_ in found}
     for number, name, message, words in found:
@@ -154,8 +154,8 @@ def put_in(values, form):
 
 
 def part_of(form, items):
-    """What stands between the marks of a place that is written: a form for each item. Those in <wrap> are one wrapped
-    list, sorted as `rt fmt` sorts what is imported."""
+    """The text that is written between a place's marks: the form for each item. Items in <wrap> become one wrapped
+    list, sorted as `rt fmt` sorts imports."""
     before, *wrap = re.split('</?wrap>', form)
     if not wrap:
         return '\n'.join(put_in(item, form) for item in items)
@@ -164,8 +164,8 @@ def part_of(form, items):
 
 
 def with_values(text, form, values):
-    """A text in which all places of a form have these values in the place of whatever others, and how many there are.
-    Blanks, ends of lines and what stands for <.> are as they were."""
+    """A text with these values in all places of a form, and the number of these places. Blanks, line ends and what
+    stands for <.> are kept."""
     pieces = re.split(r'<(\w+|\.)>', form)
     kinds = [OF_MARK.get(piece, VALUE) if at % 2 else re.sub(r'(?:\\ )+', lambda _: BLANK, re.escape(piece))
              for at, piece in enumerate(pieces)]
@@ -174,7 +174,7 @@ def with_values(text, form, values):
 
 
 def write_place(file, what, items, mark, form):
-    """Writes the items of a list to a place, or sees that it has them."""
+    """Writes a list's items to a place, or checks that they are there."""
     require(items and len({put_in(item, form) for item in items}) == len(items), f'{file}, {what}: two have one text')
     text = read(file)
     if mark == '=':

@@ -1,12 +1,12 @@
-"""Whether what pages name is there, by the letters:
+"""What pages name exists, judged by its spelling:
 
 - a path is what has a `/` or the ending of a file of this repository, between backquotes, in a link or as a command;
 - a command is a line of four blanks or of a fence for sh, or words between backquotes that begin with a command;
 - a name of the code is a word with `_` or `::` between backquotes. Each part has to stand somewhere in the sources, and
   in the file to which it is a link.
 
-A page that is named is a link, but in code and in what is packed without the other pages. No page and no comment of
-specs/ has a word in the place of which CONTRIBUTING.md says another. All pages have at most WORDS words.
+A page is named by a link, except in code and in pages that are packed without the others. No page and no comment of
+specs/ has a word that CONTRIBUTING.md replaces. All pages together have at most WORDS words.
 """
 
 import os
@@ -24,13 +24,13 @@ FILES = files()
 # The pages, and lists whose words are those of pages, by hand.
 PAGES = [*(file for file in FILES if file.endswith('.md')), PROMISES, 'docs/promises-open.txt']
 PATHS = {f'/{path}' for file in FILES for path in (file, *map(str, Path(file).parents))}
-# What is named and lies elsewhere: in upstream's source, in rust-argon2, in the toolchain, or where it is installed.
+# Names of things elsewhere: in upstream's source, in rust-argon2, in the toolchain, or where it is installed.
 ELSEWHERE = re.compile(r'[/~$]|.*(?:\bout/|NAME|CRATE)|(?:rattle/logic|Denote/|Prog/|antt/)|(?:opt\.c|ref\.c|'
                        r'index_alpha|Block::as_u8_mut|blake2b_simd|constant_time_eq|lib/libproved_argon2\.so)$')
 # Code, in a fence or set apart by four blanks, and paragraphs.
 BLOCK = re.compile(r'^```(\w*)\n((?:.*\n)*?)```$|((?:^ {4}.*(?:\n|\Z))+)|((?:^(?!```| {4}).+(?:\n|\Z))+)', re.M)
-# A path, and a name of the code; how a command begins, what stands before one, and those whose words are told elsewhere
-# than in their files.
+# A path, and a name of the code; how a command begins, what precedes one, and the help of commands whose files do not
+# list their words.
 PATH = re.compile(rf'(?!\.\.)[\w./~$-]*(?:/[\w./~$-]*|(?:{"|".join(map(re.escape, ENDINGS))}))')
 NAME = re.compile(r'(?=.*(?:[a-z]_|::))\w+(?:::\w+)*')
 COMMAND = re.compile(r'(?:rt|(?:proved-)?argon2)(?: |$)|\.ci|\./|bench/|bindings/|crates/')
@@ -39,7 +39,7 @@ HELP = {'rt': run('rt', 'help').stdout if shutil.which('rt') else '',
         **dict.fromkeys(('argon2', 'proved-argon2'), ''.join(map(read, (
             'bindings/shell/commands.sh', 'crates/argon2_commands/src/command.rt'))))}
 HELP['./argon2'] = read('argon2') + HELP['argon2']
-# How a word of a command stands where it is told: after `rt`, as a label of a shell's `case`, between quotes.
+# How a help text shows a command's word: after `rt`, as a label of a shell's `case`, between quotes.
 WORD_IN_HELP = r'(?:\brt |\||\b\d:|#     \./argon2 |"){}(?![\w-])'
 # A link with its words, its path and its heading; a page's name; and the pages that are packed without the others.
 LINK = re.compile(r'\[([^\]]*)\]\((?!\w+:)([^)\s#]*)#?([^)\s]*)\)')
@@ -77,7 +77,7 @@ def is_lost_path(name, page):
 
 
 def is_lost_name(word):
-    """Whether not each part of a name is a word of the sources, or stands in one where it begins or ends with `_`."""
+    """Whether part of a name is no word of the sources. With `_` at an end, it may be part of one."""
     is_there = word in SOURCES if re.search('^_|_$', word) else WORDS_OF_SOURCES.issuperset(word.split('::'))
     return not is_there and not ELSEWHERE.match(word)
 
@@ -130,7 +130,7 @@ def faults_of(page, text):
 
 
 @pytest.mark.parametrize('page', PAGES)
-def test_what_a_page_names_is_there(page):
+def test_everything_that_a_page_names_exists(page):
     assert not [*faults_of(page, read(page))]
 
 
@@ -142,15 +142,15 @@ def test_what_a_page_names_is_there(page):
     'a `Config::nothing_of`', '[`blake2b`](crates/argon2/src/hashing.rt)', 'the Shortages of a call',
     'a stored\ntext',
     *['    rt nothing NAME'] * bool(shutil.which('rt'))])
-def test_a_wrong_text_is_found(text):
+def test_a_text_that_names_something_missing_is_rejected(text):
     assert [*faults_of('README.md', text)]
 
 
-def test_definitions_have_the_words_of_the_pages():
+def test_comments_of_definitions_avoid_the_misleading_words():
     comments = {file: '\n'.join(re.findall(r'^ *-- (.*)$', read(file), re.M)) for file in files('crates/*/specs/**')}
     assert comments and not [file for file, text in comments.items() if avoided().search(NAMED.sub('', text))]
 
 
-def test_all_pages_can_be_read():
+def test_all_pages_together_have_at_most_the_allowed_words():
     pages = [page for page in files('*.md', 'docs/*.md') if page != 'CHANGELOG.md']
     assert pages and sum(len(read(page).split()) for page in pages) <= WORDS

@@ -1,4 +1,4 @@
-"""Whether what scripts write is current, the code of pages is built, and lists by hand are of the sources."""
+"""Generated parts are current, the code of pages is built, and handwritten lists fit the sources."""
 
 import re
 import shutil
@@ -10,7 +10,7 @@ from common import FIRST, PROMISES, REPORTS, TOP, Copy, files, read, rows
 from shared.sources import Sources, edits
 
 BLOCK = re.compile(r'^```(rust|antt)\n(.*?)^```$', re.M | re.S)
-# Of the picture of the layers: a way in, and a layer.
+# In the picture of the layers: a way in, and a layer.
 WAY = re.compile(r'<!-- (.*) -->\n<text x="(\d+)\.5" y="\d+" class="head">')
 LAYER = re.compile(r'<!-- (.*) -->\n<g transform=.*><text x="8" y="14" class="own">.*\n(.*)</g>')
 PROMISED = {'argon2_blocks', 'argon2_standard', 'argon2_memory', 'argon2_fill', 'argon2_text', 'argon2',
@@ -24,7 +24,7 @@ FORMS = (
     'Tests deny memory in calls with four lanes', 'A test of the gate fills three passes')
 
 
-def test_what_is_written_is_current(tmp_path):
+def test_generated_parts_are_current(tmp_path):
     Copy(tmp_path).assert_is_current()
 
 
@@ -45,7 +45,7 @@ def test_first_calls_are_those_of_each_languages_page():
     assert len(calls) >= 6 and not [call for page, call in calls if call not in read(page)]
 
 
-def test_what_is_quoted_of_the_logic_stands_there(needs):
+def test_quotes_of_the_logic_are_in_its_files(needs):
     needs('rt')
     logic = Path(shutil.which('rt')).resolve().parents[1] / 'rattle/logic'
     quoted = re.findall(r'^-- (\S+\.antt)\n((?:(?!--|```).*\n)+)', read(REPORTS), re.M)
@@ -62,8 +62,8 @@ def test_the_oldest_c_library_is_the_newest_that_release_asks_for(page):
     assert {*map(int, named)} == {max(asked)}
 
 
-def test_each_layer_of_the_picture_is_shown():
-    """Where it is proved by a call that this way makes, and where it is checked or tested by a file."""
+def test_each_layer_of_the_picture_names_the_calls_or_files_behind_it():
+    """A call of this way proves it, or a file checks or tests it."""
     picture, there = read('docs/what-is-proved.svg'), {*files(), *(path for path, *_ in rows(TOP / PROMISES))}
     ways = {int(x) - 27: begun.split() for begun, x in WAY.findall(picture)}
     layers = [(shown.split(), re.findall(r'#(\w+)" x="(\d+)"', words)) for shown, words in LAYER.findall(picture)]
@@ -87,7 +87,7 @@ def test_each_mutant_fits_and_names_what_it_breaks():
                           if edit.fault or edit.is_equal == bool(edit.goals) or (edit.crate, edit.name) not in wrong]
 
 
-def test_each_public_call_has_a_promise_and_what_shows_it():
+def test_each_public_call_has_a_promise_and_its_tests():
     sources, lines = Sources(), [line for line in rows(TOP / PROMISES) if len(line) > 1]
     calls = {function.path for function in sources.functions if function.path and function.crate in PROMISED}
     derived = {f'{what} for {"::".join(path)}' for at, path in sources.places.items() if at[:-1] in sources.modules
@@ -117,8 +117,8 @@ def test_callers_are_told_to_clear_what_the_proved_calls_write():
 
 
 def test_the_table_for_c_has_each_call_and_the_definitions_that_its_clause_names():
-    """`none` stands where no proved call is. What several calls give together is in the clauses of one theorem. The
-    headers have each parameter."""
+    """`none` means that no call is proved. One theorem's clauses state what several calls return together. The headers
+    have each parameter."""
     headers, code = (''.join(map(read, files(pattern)))
                      for pattern in ('bindings/c/include/*.h', 'crates/argon2_c/src/*.rt'))
     declared = {*re.findall(r'^(?!typedef| \*).*\bproved_argon2_(\w+)\(', headers, re.M)}

@@ -1,5 +1,5 @@
-"""Whether what pages tell to do ends well: the procedures of CONTRIBUTING.md, and over what is built the commands of
-the first page and what is written of the prover's reports."""
+"""Instructions on pages work: the procedures of CONTRIBUTING.md and, with what is built, the commands of the first page
+and the generated text about the prover's reports."""
 
 import re
 
@@ -20,7 +20,7 @@ CONFIG, ROWS = 'crates/argon2_standard/src/config.rt', 'crates/argon2_vectors/ro
 NUMBERS, RESULTS = 'bindings/c/tests/numbers.c', 'bindings/c/tests/results.c'
 HEADER, ERRORS = 'bindings/c/include/proved_argon2', 'crates/argon2_c/errors.txt'
 CHANGED = ('CHANGELOG.md', '\nUnreleased', '\nWhat is new.\n\nUnreleased')
-# The edits of each procedure: a file, a pattern that also fits after such a change (of a new file none), and a text.
+# The edits of each procedure: a file, a pattern that still fits after the change (none for a new file), and a text.
 PROCEDURES = {
     'a preset, before the others': [
         (CONFIG, "    /// OWASP's first", PRESET + "    /// OWASP's first"),
@@ -68,8 +68,8 @@ def copy(tmp_path):
     return Copy(tmp_path)
 
 
-def test_the_procedures_end_well(copy):
-    """In a copy the edits by hand of all are made, and then all quick tests run, without exception."""
+def test_quick_tests_pass_after_all_procedures(copy):
+    """Makes the edits of all procedures in a copy, and runs all quick tests there."""
     for file, old, new in (edit for edits in PROCEDURES.values() for edit in edits):
         copy.change(file, old, new)
         assert file.rpartition('/')[2] in (copy.top / HOW_TO_CHANGE).read_text() or old is None
@@ -77,7 +77,7 @@ def test_the_procedures_end_well(copy):
         copy.run(*step.split())
 
 
-def test_who_publishes_is_written_everywhere(copy):
+def test_a_new_address_replaces_the_old_one_everywhere(copy):
     copy.change('PROJECT', 'Address: https://vemkuorl.example/', 'Address: https://new.example/')
     copy.run('.ci/pages/write')
     assert run('git', 'grep', '-l', 'https://vemkuorl.example/', '--', ':!.ci', cwd=copy.top).stdout == ''
@@ -88,21 +88,21 @@ def test_who_publishes_is_written_everywhere(copy):
     ((ROWS, '\nConfig::owasp1\t', '\nConfig::owasp\t'), ROWS),
     ((ERRORS, '[|] NoPlace [|]', '| NoSuchPlace |'), 'errors.rt'),
     ((ERRORS, '[|] LanesTooFew [|]', '| FewLanes |'), 'error.rt')])
-def test_what_a_place_by_hand_lacks_is_named(copy, change, place):
+def test_write_names_a_file_that_was_not_changed_by_hand(copy, change, place):
     copy.change(*change)
     with pytest.raises(AssertionError, match=place):
         copy.run('.ci/pages/write')
 
 
-def test_what_is_written_of_the_reports_is_current(built, copy):
+def test_the_generated_text_about_reports_is_current(built, copy):
     assert 'not built' not in copy.run('.ci/pages/write')
     copy.assert_is_current()
 
 
 def test_the_commands_of_the_first_page_run(built):
-    """The last command that answers verifies the password; CI, which this is, is only looked for."""
+    """The last output is the verdict. `.ci/run`, which runs this test, only has to exist."""
     commands = re.findall('^    (.*)$', re.sub('^```.*?^```', '', read(FIRST), flags=re.M | re.S), re.M)
-    # (the first call of all says where the program was proved)
+    # (the very first call says where the program was proved)
     run('./argon2', 'rehash', 'argon2i', '19', '2', '256', '1', '32', '')
     text = re.sub(r'^\.ci/run$', 'test -x .ci/run', '\n'.join(commands), flags=re.M)
     came = run('bash', '-euo', 'pipefail', '-c', text)

@@ -1,4 +1,4 @@
-"""Whether sources are laid out, named and documented by the rules, as the tools of each language judge it."""
+"""Sources follow the rules for layout, names and comments, as the tools of each language judge."""
 
 import re
 
@@ -6,7 +6,7 @@ import pytest
 from common import TOP, files, read, run
 
 LONGEST = 120
-# A language: the ends of names and the first lines that its files have, and what judges them.
+# A language: how its files' names end or first lines begin, and what judges them.
 LANGUAGES = {
     'Python': (r'\.py', r'#!.*python3', 'flake8'),
     'the package for Python': (r'/proved_argon2/\w+\.py', '//!$^', 'pydocstyle --select D100,D101,D102,D103,D104,D106'),
@@ -38,13 +38,13 @@ def test_each_item_for_javascript_has_a_comment():
     assert len(items) > 50 and not [item for comment, item in items if not comment]
 
 
-def test_lemma_files_begin_with_what_they_are_about():
+def test_lemma_files_begin_with_a_comment():
     lemmas = [name for name in files('crates/*/proofs/*.antt') if not name.endswith('/Lib.antt')]
     assert lemmas and not [name for name in lemmas if not read(name).startswith('-- ')]
 
 
-def test_nothing_outside_of_ci_names_it():
-    """But pages, which tell of it, and the marks of parts that its scripts write."""
+def test_files_outside_of_ci_do_not_name_it():
+    """Except pages, and the marks of parts that its scripts write."""
     outside = [name for name in files() if not re.match(r'\.ci/|docs/|release/|setup\.cfg|.*\.md$', name)]
     named = [f'{name}: {line}' for name in outside for line in (TOP / name).read_bytes().decode(
         errors='replace').splitlines() if OF_CI.search(line)]

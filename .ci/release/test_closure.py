@@ -1,8 +1,8 @@
-"""Which crates the proved library for C has code of, by the names of its functions.
+"""Which crates' code is in the proved library for C, by function names.
 
 At level 0 the toolchain's own compiler inlines nothing, so the symbols of its object are the functions that C's calls
-reach. The toolchain finds these functions before any compiler begins, whatever the processor: so the builds of LLVM,
-those for ARM64 and WebAssembly, and the library as C, which is made of WebAssembly, have no others.
+reach. The toolchain finds these functions before any compiler begins, for all processors: so LLVM's builds, those for
+ARM64 and WebAssembly, and the library as C, which comes from WebAssembly, contain no others.
 """
 import re
 import shutil
@@ -37,4 +37,4 @@ def test_the_library_has_code_of_our_crates_and_of_those_that_the_spdx_file_list
     assert 'argon2_c::job_calls::proved_argon2_job_make' in functions and len(functions) > 300
     listed = {*re.findall('^PackageName: (.*)$', (TOP / 'proved-argon2.spdx').read_text(encoding='utf-8'), re.M)}
     assert {name for name in functions if name.partition('::')[0] not in ours} == set()
-    assert listed == {'proved-argon2', 'libgcc'}  # (the latter is of gcc, and in files for Windows alone)
+    assert listed == {'proved-argon2', 'libgcc'}  # (libgcc belongs to gcc, and is only in Windows files)

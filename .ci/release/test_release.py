@@ -1,6 +1,6 @@
 """Compares release/ with what is built here from these sources (build/release), and verifies strings by its programs.
-In a copy of this repository, without the kit, hashes and installs as each processor takes it. What is changed, forged,
-of other sources or for another machine has to be refused by name, and nothing be installed."""
+In a copy of this repository, without the kit, it hashes and installs as on each processor. Changed or forged files,
+other sources and other machines have to be refused by name, without installing anything."""
 
 import hashlib
 import os
@@ -35,7 +35,7 @@ OLD, NEW = 'cx16 lahf_lm popcnt pni sse4_1 sse4_2 ssse3'.split(), 'avx avx2 bmi1
 
 @pytest.fixture(scope='session')
 def compared():
-    """What is forged, and what is run, is what was built here."""
+    """Forges and runs what was built here."""
     output_of('build/release')
 
 
@@ -74,9 +74,9 @@ def on_processor(launcher, flags, tmp_path, *before):
 
 @needs_root
 def test_launchers_take_the_build_for_the_processor(copy, tmp_path):
-    """At once, and say once where it comes from. In a clone the older build runs where one feature is missing, and the
-    installed program chooses its build itself. Neither runs on a processor that is too old. Stand-ins of both say which
-    tunables they are passed, the user's or ours."""
+    """They start at once, and say once where the build comes from. In a clone, the older build runs if a feature is
+    missing; the installed program chooses its build itself. Neither runs on too old processors. Stand-ins print which
+    tunables they get, the user's or ours."""
     began, prefix, newer = time.monotonic(), tmp_path / 'chosen', 'the newer one glibc.malloc.'
     launchers = prefix / 'bin/proved-argon2', copy / 'argon2'
     stand_in = '#!/bin/sh\necho the newer one "$GLIBC_TUNABLES"\n'
@@ -100,7 +100,7 @@ def test_launchers_take_the_build_for_the_processor(copy, tmp_path):
 # ---- what is refused
 
 def forge(*names, is_listed=False):
-    """Another last byte in files of release/, whose sums the list may have."""
+    """Changes the last byte of files of release/, whose sums may be listed."""
     def plant(copy):
         for name in names:
             content = (copy / 'release' / name).read_bytes()
@@ -144,7 +144,7 @@ def track_unseen(copy):
 COMPARE, CLEAN, INSTALL, PACKAGE, HASH = 'build/release', 'build/clean', './install', './package', './argon2'
 LIST, CHANGED = 'release/MANIFEST', 'is not the file that release/MANIFEST names'
 ARM64 = 'aarch64/libproved_argon2.a'
-# What is planted into a copy; the commands that have to find it; and what lines of theirs have.
+# What is planted into a copy; the commands that have to find it; parts of their output.
 FORGERIES = {
     'another byte in each file': (forge(*FILES, is_listed=True), [COMPARE],
                                   [f'FAILED: release/{name} is what' for name in FILES]),

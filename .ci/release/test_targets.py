@@ -1,9 +1,9 @@
 """Targets that wine or qemu runs, and those that nothing runs here, beside the tests in C (bindings/c):
 
-- What is for ARM64 is run by qemu over Debian's C library, Python and libargon2 (aarch64_root): the shell's commands,
-  calls of libargon2's place that are drawn (SEED, or any) beside Debian's, the crate's tests, packages.
-- The machine code of the library for Windows (build/link) has to be what the toolchain made for Linux, to touch nothing
-  below the stack pointer, and to come down a stack page by page. The crate passes its tests.
+- For ARM64, qemu runs these with Debian's C library, Python and libargon2 (aarch64_root): the shell's commands, random
+  calls (SEED, or any) of our libargon2 beside Debian's, the crate's tests, packages.
+- The machine code of the library for Windows (build/link) has to be what the toolchain made for Linux, touch nothing
+  below the stack pointer, and extend a stack page by page. The crate passes its tests.
 - The library as C compiles where only a compiler is here, and ./install does so.
 """
 import os
@@ -120,7 +120,7 @@ def test_commands_over_pipes_on_arm(on_arm, tmp_path):
     output_of(*named(OVER=tool), '/usr/bin/python3', '-B', '-m', 'pytest', '-q', '.ci/faults/test_program.py')
 
 
-def test_launcher_takes_the_programs_for_arm(on_arm, tmp_path):
+def test_the_launcher_runs_the_programs_for_arm(on_arm, tmp_path):
     """(where `uname` names that machine)"""
     output_of(*named(MACHINE='aarch64', DESTDIR=tmp_path), './install', '/usr')
     write_program(tmp_path / 'uname', 'echo', 'aarch64')
@@ -129,7 +129,7 @@ def test_launcher_takes_the_programs_for_arm(on_arm, tmp_path):
     assert is_tool(*named(PATH=f'{tmp_path}:{os.environ["PATH"]}'), tmp_path / 'usr/bin/proved-argon2')
 
 
-def test_what_is_compiled_as_c_is_installed(tmp_path):
+def test_install_compiles_the_library_as_c_and_its_tool_works(tmp_path):
     output_of(*named(MACHINE='portable', DESTDIR=tmp_path), './install', '/usr')
     assert is_tool(tmp_path / 'usr/bin/proved-argon2')
 
@@ -228,11 +228,11 @@ def alignment_of(file):
 
 
 def others(made, folder, code):
-    """What a file for Windows has otherwise than the objects of the library for Linux have it, which are linked here
-    to be where it has them: in code, or in constants."""
+    """The parts, code or constants, in which a file for Windows differs from the library's objects for Linux, which are
+    linked here at the same addresses."""
     objects = [folder / f'proved_argon2_{build}.o' for build in BUILDS]
     output_of('ar', 'x', '--output', folder, made / 'x86_64' / ARCHIVE)
-    for file in objects:  # (of equal constants a linker would make one)
+    for file in objects:  # (a linker would merge equal constants)
         output_of('objcopy', '--set-section-flags', '.rodata*=alloc,readonly,data', file)
     begins = {'code': code.code[0][1], 'constants': code.data[0][1]}
     (folder / 'script').write_text(LAID_OUT.format(
@@ -272,7 +272,7 @@ def test_dll_has_the_calls_of_the_headers_alone_needs_the_system_alone_and_can_b
 
 
 @pytest.mark.parametrize('of', ['code', 'data'])
-def test_another_byte_is_found(made, tmp_path, of):
+def test_a_changed_byte_of_code_or_constants_is_found(made, tmp_path, of):
     code = Code(made / WINDOWS / DLL)
     at = code.place(getattr(code, of)[0][1])
     code.content = code.content[:at] + bytes([code.content[at] ^ 1]) + code.content[at + 1:]

@@ -5,13 +5,13 @@ import sys
 from pathlib import Path
 
 TOP = Path(__file__).resolve().parents[2]
-# Where `machines` and `toolchain`, `parts`, the definitions, what plants leaks, and what tests of bindings share are.
+# The folders of `machines`, `toolchain`, `parts`, the definitions, the planted leaks, and what tests of bindings share.
 sys.path += [str(TOP / folder)
              for folder in ('build', 'docs', 'crates/argon2_vectors', 'bindings/c/tests', 'bindings/tests')]
 
 
 def run(*words, **how):
-    """Runs a command from the top, and gives its status and all that it says."""
+    """Runs a command at the top, and returns its status and all its output."""
     return subprocess.run([str(word) for word in words],
                           **{'cwd': TOP, 'stdin': None if 'input' in how else subprocess.DEVNULL,
                              'stdout': subprocess.PIPE, 'stderr': subprocess.STDOUT, 'text': True, 'check': False,
@@ -19,14 +19,14 @@ def run(*words, **how):
 
 
 def output_of(*words, **how):
-    """What a command says that has to succeed."""
+    """Output of a command that must succeed."""
     done = run(*words, **how)
     assert done.returncode == 0, (words, done.stdout[-4000:])
     return done.stdout
 
 
 def ready(*parts):
-    """The folder that has what build/make links: parts of what is released, or those of this machine."""
+    """The folder with what build/make links: these released parts, or those for this machine."""
     output_of('build/make', *parts)
     return TOP / 'bindings/out'
 
@@ -39,17 +39,17 @@ def has_processor(build):
 
 
 def checks_at_once(rt):
-    """As many as memory holds: one of the largest crate was seen to take four fifths of 3 GB."""
+    """As many as fit into memory: one of the largest crate took four fifths of 3 GB."""
     return max(1, min(rt.processors(), int(rt.free() / 3_000_000_000)))
 
 
 # ---- lists: lines, and rows
 
 def lines(path):
-    """Of a list; one that begins with `#` is none."""
+    """Lines of a list, without those beginning with `#`."""
     return [line for line in path.read_text(encoding='utf-8').split('\n') if line and not line.startswith('#')]
 
 
 def rows(path):
-    """The lines of a table, as lists of what stands between ` | `."""
+    """The lines of a table, each split at ` | `."""
     return [[part.strip() for part in f'{line} '.split(' | ')] for line in lines(path)]

@@ -1,5 +1,5 @@
-"""What stands in the sources, in the form that `rt fmt` gives them: functions with their spans, the paths under which
-users find them, tests, and mutants."""
+"""Reads the sources as `rt fmt` lays them out: functions with their spans, the paths under which users find them,
+tests, and mutants."""
 
 import re
 import textwrap
@@ -25,10 +25,10 @@ RE_EXPORT = re.compile(r'^pub use ([\w:]+?)(?:::\{([^}]*)\})?;', re.M)
 PROMISE = re.compile(r'^( *)(?:requires|ensures|ghost)\b.*(?:\n\1(?: .*|\}.*))*', re.M)
 # What the checker may put before a name where it spells a trait or a type.
 AROUND = r'(?:Array|Slice|Ref|Tuple\d+)*'
-# A crate's mutants: those that `rt ci` tries too have a file each in a folder, and all others a block each in one file.
+# A crate's mutants: each one that `rt ci` also tries has its own file in a folder, and each other a block in one file.
 TRIED_ALONE, MUTANTS = 'must-fail', 'mutants.txt'
-# Theorems that no contract names: mutants of their crate may change what is stated, also clauses. Elsewhere a mutant
-# whose goal is a lemma may.
+# Crates with theorems that no contract names: mutants may change statements and clauses. Elsewhere, mutants whose goal
+# is a lemma may change statements.
 STATEMENTS = 'specs/Statements.antt'
 REFUSED, PROVED = 'refused', 'proved'
 PAIR = re.compile(r'(?:^file: (.+)\n)?^old: (.+)\nnew: ?(.*)$', re.M)
@@ -68,7 +68,7 @@ class Function:
         self.crate, self.folders = module.path[0], [*module.path[1:], *filter(None, [self.owner])]
 
     def is_called(self, place):
-        """Whether the checker calls it so: `crate::module::VariantOrd::cmp` is that of `impl Ord for Variant`."""
+        """Whether this is the checker's name: `crate::module::VariantOrd::cmp` is that of `impl Ord for Variant`."""
         names = [*self.module.path, spelled(self.of) + spelled(self.what), self.name]
         return bool(re.fullmatch('::'.join(filter(None, names)), place))
 
@@ -184,8 +184,7 @@ class Edit:
         yield from filter(None, map(self.lost_promise, self.edited, self.edited.values()))
 
     def lost_promise(self, file, text):
-        """A clause or ghost item that stands in a file and not in its edited text: a mutant promises what the original
-        does."""
+        """A clause or ghost item that the edited file lacks: a mutant has to promise what the original does."""
         if self.is_of_theorem or (TOP / 'crates' / self.crate / STATEMENTS).exists():
             return None
         if 'src' not in file.relative_to(TOP / 'crates' / self.crate).parts:

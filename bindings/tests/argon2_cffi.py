@@ -1,5 +1,5 @@
-"""Our package in the place of argon2-cffi, for its own tests: a plugin of pytest. What these import of its insides are
-stand-ins here, so the tests of insides fail."""
+"""A pytest plugin that puts our package in argon2-cffi's place, for the latter's own tests. Internal names that these
+import are stand-ins here, so tests of internals fail."""
 import sys
 from types import ModuleType, SimpleNamespace
 
@@ -7,8 +7,7 @@ import proved_argon2
 import pytest
 from proved_argon2 import _password_hasher, low_level
 
-# The tests of argon2-cffi 25.1.0 that fail over this package, and what it differs by. docs/PYTHON.md has the list for
-# users.
+# The tests of argon2-cffi 25.1.0 that fail with this package, and why. docs/PYTHON.md has the list for users.
 FAILING = {
     "test_low_level.py::TestVerify::test_wrong_arg_type": "the words of the TypeError",
     "test_low_level.py::test_core": "there is no `core`",

@@ -1,5 +1,5 @@
-"""What each call of the package for Python gives for each number that the library may return, as codes.txt says: over
-the library of codes.c, which PROVED_ARGON2_LIBRARY names."""
+"""Each call of the Python package returns or raises what codes.txt says for each number of the library.
+PROVED_ARGON2_LIBRARY names the library, made of codes.c."""
 import collections
 import concurrent.futures
 
@@ -27,7 +27,7 @@ HASH, VERIFY = (b"word", b"somesalt", *SETTINGS), (TEXT.encode(), b"word", Type.
 NAMED = {"key": b"key", "associated_data": b"data"}
 LIMITS = Limits(memory_cost=10, time_cost=11, parallelism=12, work=13)
 STORED = Parameters(type=Type.ID, version=19, memory_cost=64, time_cost=3, parallelism=4, hash_len=5, salt_len=6)
-# The values of the table: what is raised in place of a verdict says the number.
+# The values of the table. Exceptions instead of verdicts contain the number.
 VALUES = {"tag": b"x" * 5, "text": b"x" * 12, "true": True, "false": errors.VerifyMismatchError,
           "costly": errors.TooCostlyError, "stored": STORED}
 VERDICTS = {0: True, HEADER["MISMATCH"]: VALUES["false"], HEADER["TOO_COSTLY"]: VALUES["costly"]}
@@ -52,7 +52,7 @@ each_call = pytest.mark.parametrize("name", CALLS)
 
 
 def said_of(number):
-    """The message for a number: the stub's, which the package has for all strings that are no encoded hash."""
+    """A number's message: the stub's. All strings that are no encoded hash have the same."""
     return f"N{(HEADER['DECODING_FAIL'] if number == HEADER['NOT_ASCII'] else number) % 1000:03}"
 
 
@@ -61,7 +61,7 @@ def set_answers(check=0, then=0, read=0, memory=0, kib=1024):
 
 
 def seen():
-    """What the library saw since the answers were set."""
+    """What the library received since the answers were set."""
     *numbers, judging, telling, computing = STUB.seen().decode(errors="replace").split("|", 8)
     return Seen(*map(int, numbers), judging, telling, computing)
 
@@ -72,8 +72,8 @@ def nothing_is_wrong():
 
 
 def gives(place, call, values, other, saw=lambda number: True):
-    """A call has to give a value for each number that has one, or to raise what stands for it, and otherwise the other
-    error: each with the number's message."""
+    """A call has to return the value of each number that has one, or raise its exception, and otherwise the other
+    error, with the number's message."""
     for number in NUMBERS:
         set_answers(**{place: number})
         expected = values.get(number, other)
@@ -90,8 +90,8 @@ def gives(place, call, values, other, saw=lambda number: True):
 @each_call
 @pytest.mark.parametrize("is_kept", [False, True])
 def test_a_call_gives_for_each_number_what_the_table_says(name, is_kept):
-    """It passes what it is given in its place, and asks for as many threads as lanes. A memory is made where the
-    library says that it is too small, of what the settings or the string say, and only then."""
+    """It passes its arguments in order, and asks for as many threads as lanes. A buffer is allocated only if the
+    library says that it is too small, with the size of the settings or the string."""
     codes, other = CODES[name], errors.HashingError if name.startswith("hash") else errors.VerificationError
     values = {number: VALUES[value] for number, value in codes.values.items()}
     telling, memories = codes.telling if codes.hashes else CODES["read"].telling, []
@@ -128,7 +128,7 @@ def test_a_memory_is_kept_and_given_back(name):
     assert seen().there == 0
 
 
-def test_a_hasher_and_the_calls_before_it_give_the_same():
+def test_hashers_and_deprecated_calls_return_or_raise_the_same():
     for call, value in HASHERS:
         gives("then", call, {0: value}, errors.HashingError)
         gives("check", call, {0: value}, errors.HashingError)
@@ -138,7 +138,7 @@ def test_a_hasher_and_the_calls_before_it_give_the_same():
 
 
 @pytest.mark.parametrize("call, value", READERS)
-def test_a_string_has_settings_for_ok_alone(call, value):
+def test_settings_of_a_string_are_returned_only_for_ok(call, value):
     invalid = {HEADER["DECODING_FAIL"]: errors.InvalidHashError, HEADER["NOT_ASCII"]: errors.InvalidHashError,
                HEADER["OUT_OF_MEMORY"]: MemoryError}
     gives("read", call, {**invalid, 0: value}, errors.Argon2Error)
@@ -152,7 +152,7 @@ def test_the_numbers_are_the_header_s():
 
 
 @pytest.mark.parametrize("keep_memory", [False, True])
-def test_a_hasher_passes_what_it_is_given_in_its_place(keep_memory):
+def test_a_hasher_passes_its_arguments_and_limits_in_order(keep_memory):
     limits, length = Limits(100, 11, 12, 193), 0 if keep_memory else -1
     hasher = PasswordHasher(3, 64, 4, 5, 8, "utf-8", Type.I, limits=limits, keep_memory=keep_memory)
     hasher.hash("word", salt=b"somesalt")
@@ -166,7 +166,7 @@ def test_a_hasher_passes_what_it_is_given_in_its_place(keep_memory):
 
 
 def computing(**named):
-    """The calls that can be told how far they are."""
+    """The calls that take a progress callback."""
     for memory in (None, Memory()):
         hasher = PasswordHasher(keep_memory=memory is not None)
         yield from (lambda call=call: call(memory=memory, **named) for call in CALLS.values())
@@ -180,7 +180,7 @@ def in_a_thread(call):
     return seen().progress
 
 
-def test_a_call_tells_how_far_it_is_where_handlers_of_signals_run_or_where_it_is_asked():
+def test_a_call_reports_progress_in_the_main_thread_or_if_asked():
     for call in computing():
         call()
         assert (seen().progress, in_a_thread(call)) == (0, -1)
@@ -193,7 +193,7 @@ def test_a_call_tells_how_far_it_is_where_handlers_of_signals_run_or_where_it_is
 
 @pytest.mark.parametrize("error", [ValueError("enough"), KeyboardInterrupt(), SystemExit(3), GeneratorExit("it")])
 @pytest.mark.parametrize("number", [HEADER["STOPPED"], 0, HEADER["MISMATCH"]])
-def test_what_progress_raises_stops_a_call_whatever_that_answers(error, number):
+def test_an_exception_of_progress_stops_a_call_whatever_the_library_returns(error, number):
     def progress(*_):
         raise error
 
@@ -209,6 +209,6 @@ def test_what_progress_raises_stops_a_call_whatever_that_answers(error, number):
     (lambda: PasswordHasher(parallelism=3).hash("p"), 3), (lambda: PasswordHasher(parallelism=1).hash("p"), 1),
     (lambda: PasswordHasher(parallelism=3, keep_memory=True).hash("p"), 3), (CALLS["verify_encoded"], 4),
     *((call, 4) for call in VERIFIERS)])
-def test_there_are_as_many_threads_as_lanes(call, threads):
+def test_a_call_asks_for_as_many_threads_as_lanes(call, threads):
     call()
     assert seen().threads == threads

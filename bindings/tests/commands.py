@@ -14,11 +14,11 @@ from running import TOP as ROOT
 PROGRAM = str(running.built() / running.PROVED[0] / "argon2_program")
 TOOL = str(running.built() / running.PROVED[0] / "argon2_tool")
 LIBRARY = running.built() / running.MACHINE / f"libproved_argon2.so.{running.VERSION}"
-# What runs the program through the script around it, as `each_command` sets it.
+# The command that `each_command` sets: the script that runs the program.
 COMMAND = []
 SMALL = "argon2id 19 1 8 1 16 seq".split()
 STORED = "$argon2i$v=19$m=256,t=2,p=1$c29tZXNhbHQ$iekCn0Y3spW+sCcFanM2xBT63UP2sghkUoHLIUpWRS8"
-# A text above a limit of `check`.
+# An encoded hash above `check`'s limits.
 COSTLY = "$argon2id$v=19$m=8,t=1000,p=1$c29tZXNhbHQ$c29tZWhhc2g"
 # What is said of it.
 ABOVE = b"""The encoded hash is above the limits
@@ -28,7 +28,7 @@ check and new take at most 2 GiB, 10 passes, 16 lanes and the work of 4 GiB in o
 
 @pytest.fixture(scope="module", autouse=True, params=["sh", "bash", "./argon2"])
 def each_command(request, installed):
-    """The installed program by the shell of the system and by bash, and that of the repository."""
+    """The installed program, run by the system's shell and by bash, and the repository's program."""
     script = str(installed / "bin/proved-argon2")
     COMMAND[:] = {"sh": [script], "bash": ["bash", script]}.get(request.param, [str(ROOT / "argon2")])
     piped(["new", *SMALL], b"password")  # (a clone says once which program it runs)
@@ -42,7 +42,8 @@ def piped(words, stdin=b"", command=None, **more):
 
 @contextlib.contextmanager
 def clock(*milliseconds):
-    """An environment in which `tune` measures these times, one after another: each call of `date` says a line more."""
+    """An environment in which `tune` measures these times, one after another: each call of `date` prints the next
+    line."""
     with tempfile.TemporaryDirectory() as folder:
         lines, date = pathlib.Path(folder, "lines"), pathlib.Path(folder, "date")
         lines.write_text("".join(f"{number}000000000\n{number}{took:03}000000\n" for number, took in zip(
@@ -65,7 +66,7 @@ class Limits(ctypes.Structure):
 
 
 def numbers(name, kind=Settings):
-    """What a call of the library without arguments returns: a preset, or the default limits."""
+    """The result of a library call without arguments: a preset, or the default limits."""
     call = getattr(ctypes.CDLL(str(LIBRARY)), f"proved_argon2_{name}")
     call.argtypes, call.restype = [], kind
     return call()

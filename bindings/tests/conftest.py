@@ -1,4 +1,4 @@
-"""What is built, where it is installed, and what cargo and Node take."""
+"""What is built, where it is installed, and what cargo and Node need."""
 import random
 import shutil
 
@@ -14,7 +14,7 @@ def built():
 
 @pytest.fixture(scope="session")
 def installed(tmp_path_factory):
-    """The prefix of an installation, which has a blank in its name."""
+    """The prefix of an installation, with a blank in its name."""
     prefix = tmp_path_factory.mktemp("installed") / "a prefix"
     running.run("./install", prefix)
     return prefix

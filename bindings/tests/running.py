@@ -26,8 +26,7 @@ replace-with = "debian"
 [source.debian]
 directory = "/usr/share/cargo/registry"
 """
-# The numbers of the library's header by their names. Then all of them, those that stand beside them, and some that no
-# call returns.
+# The numbers of the library's header, by name. Then all of them, their neighbours, and some that no call returns.
 HEADER = {name: int(number, 0) for name, number in re.findall(
     r"^ *PROVED_ARGON2_(\w+) = (\w+)", (TOP / "bindings/c/include/proved_argon2.h").read_text(), re.M)}
 NUMBERS = sorted({*range(23), 255, 256, 999, 0x7FFFFFFF, 0x80000000, 0xFFFFFFFF,
@@ -46,20 +45,20 @@ class Codes:
 
 CODES = {codes.name: codes for codes in map(
     Codes, re.findall("^[^#].*", (TOP / "bindings/tests/codes.txt").read_text(), re.M))}
-# What a kept memory has after calls that find it too small: its bytes, how many a KiB takes, what is said to who asks
-# for one, and how many are asked for, are there then and were there at once.
+# A kept memory after calls that found it too small: its bytes, the bytes per KiB, the answer to an allocation, and how
+# many were requested, exist then, and existed at once.
 MEMORIES = [(65536, 1024, 0, (1, 1, 1)), (65536, 1024, 0, (0, 1, 0)), (131072, 2048, 0, (1, 1, 1)), *(
     step for refused in NUMBERS[1:] for step in ((0, 4096, refused, (1, 0, 0)), (65536, 1024, 0, (1, 1, 1))))]
 
 
 def needs(*programs):
-    """Skips a test where a program is not there."""
+    """Skips a test if a program is missing."""
     lacking = [program for program in programs if not shutil.which(program)]
     return pytest.mark.skipif(bool(lacking), reason=f"there is no {', '.join(lacking)}")
 
 
 def start(*words, env=(), cwd=TOP, timeout=2400, **named):
-    """A command that has ended, with what it said."""
+    """A command that has ended, with its output."""
     named = {"stdin": None if "input" in named else subprocess.DEVNULL, "capture_output": True, "text": True, **named}
     without = {name: value for name, value in {**os.environ, **dict(env)}.items() if value is not None}
     return subprocess.run([*map(str, words)], env={name: str(value) for name, value in without.items()}, cwd=cwd,
@@ -67,34 +66,34 @@ def start(*words, env=(), cwd=TOP, timeout=2400, **named):
 
 
 def run(*words, **named):
-    """What a command says that has to succeed."""
+    """Output of a command that must succeed."""
     done = start(*words, **named)
     assert done.returncode == 0, f"{words} ended with {done.returncode}\n{done.stdout[-9000:]}\n{done.stderr[-9000:]}"
     return done.stdout
 
 
 def refuses(status, text, *words, **named):
-    """A command has to end with this status, and to say this on standard error, which is given."""
+    """A command has to end with this status and this text on standard error, which is returned."""
     done = start(*words, **named)
     assert done.returncode == status and text in done.stderr, (words, done.returncode, done.stdout, done.stderr)
     return done.stderr
 
 
 def fetch(call, *words):
-    """Whether a call of fetching.bash has what it looks for."""
+    """Whether a call of fetching.bash finds what it wants."""
     script = 'source bindings/tests/fetching.bash && "$@"'
     return start("bash", "-c", script, "bash", call, "sid", *words).returncode == 0
 
 
 @functools.lru_cache(None)
 def built(part=MACHINE):
-    """The folder that has a part, linked, as it is proved and built here or in release/."""
+    """The folder with a linked part, as proved and built here or in release/."""
     return pathlib.Path(run("build/prepare", part, timeout=4800).strip())
 
 
 def ahead(request, name, work, at_once=None):
-    """A fixture's: begins some work for each value that a parameter has in the chosen tests of its module, and gives
-    what waits for what comes of a value, and begins what no chosen test has."""
+    """For fixtures: starts work for each value that a parameter has in the module's chosen tests. Returns a function
+    that waits for a value's result, and starts work for other values."""
     specs = [item.callspec for item in request.session.items
              if item.module is request.module and hasattr(item, "callspec")]
     values = dict.fromkeys(spec.params[name] for spec in specs if name in spec.params)
@@ -111,8 +110,8 @@ def rows(path):
 
 
 def build_preloaded(source, folder):
-    """Builds a library to be preloaded, and gives its path. What it calls is bound at once, since what binds it later
-    saves the program's registers on the stack."""
+    """Builds a library to be preloaded, and returns its path. Its calls are bound at once, since lazy binding saves the
+    program's registers on the stack."""
     made = pathlib.Path(folder, source.name).with_suffix(".so")
     flags = "-std=gnu11 -O1 -Wall -Wextra -Werror -D_GNU_SOURCE -shared -fPIC -nostdlib -Wl,-z,now".split()
     run("gcc", *flags, source, "-o", made)
@@ -120,24 +119,24 @@ def build_preloaded(source, folder):
 
 
 def in_namespace(script, *words):
-    """The words that run bash where what it mounts is seen by it alone."""
+    """The words that run bash in its own mount namespace."""
     return ["unshare", "--mount", "--propagation", "private", "bash", "-euc", script, "bash", *words]
 
 
 def exports(file):
-    """The names that a shared object has for programs."""
+    """The names that a shared object exports."""
     rows = [line.split() for line in run("readelf", "--dyn-syms", "-W", file).splitlines()]
     return sorted(row[7].partition("@")[0] for row in rows if len(row) > 7 and row[4] == "GLOBAL" and row[6].isdigit())
 
 
 def flags_of(prefix):
-    """What pkg-config says that a compiler needs for the library in a prefix."""
+    """The flags by pkg-config for the library in a prefix."""
     said = run("pkg-config", "--cflags", "--libs", "proved_argon2", env={"PKG_CONFIG_PATH": prefix / "lib/pkgconfig"})
     return shlex.split(said)
 
 
 def first_lines(page, count=5):
-    """The lines with which a page begins, which are so many."""
+    """The first lines of a page, this many."""
     lines = re.search(r"^```\w*\n(.*?)^```", (TOP / "docs" / page).read_text(), re.M | re.S)[1]
     assert lines.count("\n") == count, lines
     return lines

@@ -1,6 +1,6 @@
-"""The lines of the pages do what they say: those with which they begin, of docs/USE.md for PHP, and docs/examples,
-under more logins at once than they have places for. The manual pages and the help have what the header, the library and
-the program have; a script writes their errors and limits."""
+"""The code of the pages works: their first lines, the PHP code of docs/USE.md, and docs/examples, under more logins at
+once than they have places for. The manual pages and the help agree with the header, the library and the program; a
+script writes their errors and limits."""
 import os
 import re
 import shutil
@@ -10,7 +10,7 @@ from commands import COSTLY, STORED, TOOL, clock, numbers, piped
 from running import CC, MACHINE, TOP, first_lines, flags_of, needs, project, run, start
 
 SERVICE, EXAMPLES = TOP / "bindings/tests/service", TOP / "docs/examples"
-# A hash of bcrypt, and one of Argon2 with other settings, are renewed at a login with the right password alone.
+# A bcrypt hash, and an Argon2 hash with other settings, are renewed only at a login with the right password.
 PHP = """<?php
 function log_in($stored, $password) {
 %s
@@ -83,7 +83,7 @@ def test_the_row_of_python_works_where_python_takes_no_packages_outside_of_an_en
 
 
 def test_the_lines_for_the_shell_run(installed):
-    """By a clock on which each measurement of `tune` takes 150 milliseconds."""
+    """With a clock by which each measurement of `tune` takes 150 milliseconds."""
     with clock(*[150] * 50) as environment:
         path = f"{installed}/bin:{environment['PATH']}"
         said = run("sh", "-c", first_lines("SHELL.md"), env={**environment, "PATH": path, "password": "secret"})
@@ -97,7 +97,7 @@ def test_the_lines_for_php_move_a_hash_to_argon2():
 
 
 def serves(*words, **named):
-    """Runs a service, whose log tells of the login that a user's name forges, and has no line of it."""
+    """Runs a service. A user's name forges a log line: the log mentions it, but not as a line."""
     done = start(*words, **named)
     assert done.returncode == 0, done.stderr[-9000:]
     assert "logged in: root" in done.stderr and not re.search(r"^(INFO:root:)?logged in: root", done.stderr, re.M)

@@ -301,7 +301,7 @@ def test_a_service_serves_more_logins_than_it_computes(module, env, tmp_path, wo
 
 
 def test_no_copy_of_a_password_or_a_pepper_is_left(module, env, tmp_path):
-    """(the second half of it is looked for, since the heap of C overwrites the first bytes of what is freed)"""
+    """(searches for its second half, since C's heap overwrites the first bytes of freed memory)"""
     folder = program(tmp_path / "secretive", module)
     (folder / "main.go").write_text(SECRETIVE)
     run("go", "build", "-o", tmp_path / "program", cwd=folder, env=env)
@@ -346,7 +346,7 @@ def test_the_tests_pass_with_musl_in_a_static_program(module, env, drawn, tmp_pa
 
 @needs("aarch64-linux-gnu-gcc", "qemu-aarch64-static")
 def test_the_tests_pass_on_arm64(module, env, drawn, tmp_path):
-    """But those that measure, since qemu takes time and memory of its own."""
+    """Except those that measure, since qemu itself takes time and memory."""
     run("go", "test", "-c", *LINKED, "-o", tmp_path / "tests", cwd=module,
         env={**env, "CC": "aarch64-linux-gnu-gcc", "GOARCH": "arm64"})
     run("qemu-aarch64-static", tmp_path / "tests", "-test.run", "Raw|Texts|Example$|IDKey|Peppers|EveryError|Cancelled",

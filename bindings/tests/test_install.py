@@ -1,4 +1,4 @@
-"""What ./install puts into a folder, and whether programs in C build and run by it."""
+"""./install writes these files, and C programs build and run with them."""
 import os
 import re
 import shutil
@@ -9,7 +9,7 @@ from running import BUILDS, CC, MACHINE, PROVED, TOP, VERSION, flags_of, needs, 
 LIBRARY = "libproved_argon2.so"
 EXAMPLE = TOP / "bindings/c/tests/example.c"
 HEADERS = sorted((TOP / "bindings/c/include").glob("*.h"))
-# The functions of the headers: a line of its own begins each.
+# The functions of the headers: each begins on a new line.
 CALLS = sorted(re.findall(
     r"^(?:void |uint32_t |uint64_t |const char \*|proved_argon2_(?:settings|limits) )(proved_argon2_[a-z0-9_]*)\(",
     "".join(header.read_text() for header in HEADERS), re.M))
@@ -45,7 +45,7 @@ def examples(installed, tmp_path_factory):
     return folder
 
 
-def test_it_puts_these_files_and_no_others(installed):
+def test_install_writes_exactly_the_listed_files(installed):
     assert len(CALLS) > 40 and files_in(installed) == EXPECTED
 
 
@@ -72,7 +72,7 @@ def test_the_example_builds_by_cmake_with_either_library(installed, tmp_path):
 
 @needs("cmake")
 @pytest.mark.parametrize("place, step", [(0, 1), (0, -1), (2, 1)])
-def test_cmake_takes_no_version_that_is_later_or_begins_with_another_number(installed, tmp_path, place, step):
+def test_cmake_rejects_a_later_version_and_another_first_number(installed, tmp_path, place, step):
     numbers = [int(number) for number in VERSION.split(".")]
     numbers[place:] = [numbers[place] + step, *numbers[place + 1:]]
     done = configure(installed, tmp_path, ".".join(map(str, numbers if place else numbers[:1])))
@@ -110,7 +110,7 @@ def test_registers_of_256_and_512_bits_are_in_the_builds_for_their_processors_al
         assert {*re.findall(r"%([yz]mm)\d", run("objdump", "-d", file))} == expected, file
 
 
-def test_the_loader_is_asked_for_no_processor_and_to_run_nothing(installed, examples):
+def test_the_files_require_no_processor_and_run_nothing_when_loaded(installed, examples):
     shared = installed / f"lib/{LIBRARY}.1"
     for file in (shared, installed / "lib/proved-libargon2/libargon2.so.1", examples / "static"):
         assert "ISA needed: x86-64-v" not in run("readelf", "-nW", file)
@@ -126,7 +126,7 @@ def test_the_program_runs_also_by_a_link(installed, tmp_path):
         assert run(program, "--version") == f"proved-argon2 {VERSION}\n"
 
 
-def test_installing_once_more_puts_new_files_in_the_places_of_those_that_are_open(installed):
+def test_installing_again_replaces_open_files_by_new_ones(installed):
     with open(installed / "bin/proved-argon2", "rb") as script, open(installed / f"lib/{LIBRARY}.1", "rb") as library:
         run("./install", installed)
         for file in (script, library):
@@ -142,7 +142,7 @@ def test_the_manual_is_sound_and_there_by_the_name_of_each_call(installed, page)
 
 
 def of_arm(archive):
-    """Objects that say that they are for ARM."""
+    """Objects marked as being for ARM."""
     return archive.replace(bytes.fromhex("01003e0001000000"), bytes.fromhex("0100b70001000000"))
 
 
@@ -152,8 +152,8 @@ def of_arm(archive):
     (of_arm, "is for another machine", CC),
     (lambda archive: archive, "there is no nocompiler", "nocompiler"),
 ])
-def test_what_cannot_be_linked_is_named(built, tmp_path, change, why, compiler):
-    """Over what is proved, with something else in the place of one."""
+def test_an_error_names_the_file_that_cannot_be_linked(built, tmp_path, change, why, compiler):
+    """Among the proved files, one is replaced."""
     for build in BUILDS:
         shutil.copytree(built / build, tmp_path / build)
     archive = tmp_path / PROVED[-1] / "libargon2_c.a"

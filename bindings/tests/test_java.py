@@ -35,7 +35,7 @@ uint32_t proved_argon2_password_verify_unknown(const proved_argon2_options *opti
     return options != NULL && settings != NULL && password != NULL && pepper != NULL && length + len == 7 ? answer : 0;
 }
 """
-# Denies what the files in a folder say: `threads`, `memory` (of 16 MiB or more), or that memory `once`.
+# Denies what a file in a folder names: `threads`, `memory` (16 MiB or more), or that memory `once`.
 DENYING = """#define _GNU_SOURCE
 #include <dlfcn.h>
 #include <errno.h>
@@ -95,7 +95,7 @@ exec chroot "$system" env -C "$PWD" "${@:2}"
 
 @pytest.fixture(scope="module")
 def jar(tmp_path_factory):
-    """With the library for this machine alone. (The compiler has no warning about the package.)"""
+    """With only this machine's library. (The compiler has no warning about the package.)"""
     file = tmp_path_factory.mktemp("jar") / "proved-argon2.jar"
     run(JAVA / "pack", file, built() / MACHINE, env={"SOURCE_DATE_EPOCH": 1700000000})
     return file
@@ -114,7 +114,7 @@ def path_of(*files):
 
 
 def words_of(jar, classes, drawn, *words):
-    """The words of JUnit. (The collector does not run, and so copies no password, while it is tested who clears it.)"""
+    """The command of JUnit. (The collector does not run, so it copies no password while tests check its clearing.)"""
     temporary = jar.parent / "temporary"
     temporary.mkdir(exist_ok=True)
     values = {"vectors": TOP / "bindings/vectors", "tables": TESTS, "random": drawn["RANDOM_HASHES"],
@@ -125,7 +125,7 @@ def words_of(jar, classes, drawn, *words):
 
 
 def passes(count, *words, **named):
-    """A run of JUnit, in which so many tests pass. -Xcheck:jni finds nothing."""
+    """Runs JUnit: this many tests must pass, and -Xcheck:jni finds nothing."""
     said = run(*words, **named)
     assert f"{count} tests successful" in said and not re.search("WARNING in native|FATAL ERROR", said), said
 
@@ -214,7 +214,7 @@ def test_an_encoder_for_spring_is_one_line(jar, tmp_path):
 
 
 def test_the_service(jar, tmp_path):
-    """Under more logins at once than it has places for, by clients of whom some leave."""
+    """With more simultaneous logins than places, and clients of whom some leave."""
     run("javac", *LINT, "-cp", jar, "-d", tmp_path, TOP / "docs/examples/LogIn.java", TESTS / "service/Service.java")
     done = start("java", "-Xmx64m", "-cp", f"{jar}:{tmp_path}", "Service", env={"PEPPER": "pepper"}, timeout=300)
     assert done.returncode == 0, done.stderr[-9000:]
@@ -223,7 +223,7 @@ def test_the_service(jar, tmp_path):
 
 @needs("musl-gcc")
 def test_musl_loads_the_library_of_the_jar(jar, tmp_path):
-    """With nothing else of Java."""
+    """Without the rest of Java."""
     with zipfile.ZipFile(jar) as packed:
         packed.extract(f"proved/argon2/native/linux-{MACHINE}.so", tmp_path)
     (tmp_path / "loads.c").write_text(

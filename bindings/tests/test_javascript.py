@@ -1,5 +1,4 @@
-"""The package for npm: its own tests in Node, also in that of another release of Debian, and beside other
-implementations."""
+"""The package for npm: its own tests in Node, also that of another Debian release, and beside other implementations."""
 import json
 import re
 import shutil
@@ -59,7 +58,7 @@ def system(tmp_path_factory):
 
 @needs("debootstrap")
 def test_its_own_tests_pass_in_the_node_of_debian_s_sid(site, named, system):
-    """(those by workers are of WebAssembly; the hashes that were drawn are beside the site)"""
+    """(tests by workers use WebAssembly; the random hashes are beside the site)"""
     words = "unshare", "--mount", "--propagation", "private", "bash", "-euc", OTHER_NODE, "bash"
     judge(site, named, OWN, *words, system, site.parent, TOP)
 
@@ -77,8 +76,8 @@ def test_it_has_the_files_that_npm_would_pack(site, tmp_path):
     assert names[0] == names[1]
 
 
-def test_it_asks_for_nothing_and_has_the_licence(site):
-    """It depends on nothing, and runs nothing when it is installed."""
+def test_the_package_has_the_licence_and_no_dependencies_or_install_scripts(site):
+    """It has no dependencies, and runs nothing when it is installed."""
     folder = site / "node_modules/proved-argon2"
     for name in ("LICENSE", "NOTICE", "proved-argon2.spdx"):
         assert (folder / name).read_bytes() == (TOP / name).read_bytes()
@@ -92,8 +91,8 @@ def test_the_addon_declares_what_node_does():
 
 
 @pytest.mark.parametrize("sanitizer", ["thread", "address,undefined"])
-def test_the_addon_goes_on_where_threads_and_memory_are_denied(built, tmp_path, sanitizer):
-    """Runs queue for the threads that there are. A kept buffer is zero, and goes after some idle time."""
+def test_the_addon_computes_even_if_threads_and_memory_are_denied(built, tmp_path, sanitizer):
+    """Runs queue for the existing threads. A kept buffer is zero, and is freed after some idle time."""
     program = tmp_path / "program"
     run(CC, "-std=c11", "-O1", f"-fsanitize={sanitizer}", "-fno-sanitize-recover=all", "-Wall", "-Wextra", "-Werror",
         "-g", "-DKEPT_SECONDS=1", "-I", HEADERS, "-I", SOURCES / "addon", "bindings/tests/addon_pool.c",
@@ -114,8 +113,8 @@ export const verdict: Promise<boolean> = inline.verify('', 'password');
 @pytest.mark.parametrize("words", ["--module nodenext --moduleResolution nodenext types.mts",
                                    "--module es2022 --moduleResolution node types.mts",
                                    "--lib es2022 --module nodenext --moduleResolution nodenext bare.cts"])
-def test_the_types_hold(site, words):
-    """By both rules by which compilers look for the types of a package, also of CommonJS, and without a page's types or
+def test_typescript_accepts_right_calls_and_rejects_wrong_ones(site, words):
+    """With both rules by which compilers find a package's types, also for CommonJS, and without a page's types or
     Node's."""
     (site / "bare.cts").write_text(BARE)
     run("tsc", "--noEmit", "--strict", "--target", "es2022", *words.split(), cwd=site)
@@ -123,7 +122,7 @@ def test_the_types_hold(site, words):
 
 @needs("eslint")
 def test_eslint_finds_nothing():
-    """In what runs in engines, and in its tests."""
+    """In the code for engines and its tests."""
     words = "--no-eslintrc", "--config", "bindings/javascript/eslint.json", "--format", "unix", "--ext", ".js,.mjs"
     run("eslint", *words, "bindings/javascript", "bindings/wasm", "bench", "docs/demo", "docs/examples", env={
         "NODE_PATH": "/usr/share/nodejs", "NODE_OPTIONS": f"--require={SOURCES}/tests/debian.cjs"})
@@ -135,7 +134,7 @@ def test_the_first_lines_of_the_page_run(site):
 
 
 def test_the_service(site):
-    """Under more logins at once than it has places for."""
+    """With more simultaneous logins than places."""
     shutil.copy(TOP / "docs/examples/log_in.mjs", site)
     done = start("node", "service.mjs", cwd=site)
     assert done.returncode == 0, done.stderr[-9000:]

@@ -1,5 +1,5 @@
-"""When and how the script `argon2` builds the program, in a tree with a stand-in for the toolchain: where there is no
-program, where a source or the kit is another, and not else. And what it does in a clone with a release."""
+"""When the script `argon2` builds the program, in a tree with a stand-in for the toolchain: only if there is no
+program, or a source or the kit has changed. And what it does in a clone with a release."""
 import os
 import re
 import resource
@@ -42,7 +42,7 @@ def write_program(file, text):
 
 
 class Tree:
-    """The sources that the script looks at, a word each, and nothing of the toolchain but its name."""
+    """The sources that the script reads, one word each, and only the toolchain's name."""
 
     def __init__(self, folder):
         self.folder, self.runs = folder, folder / "runs"
@@ -61,7 +61,7 @@ class Tree:
         write_program(folder / "bin/rt", "#!/bin/sh\n")
 
     def builds(self, count):
-        """A call has to come to the program, after so many builds since the last one."""
+        """A call has to reach the program, after this many builds since the last."""
         said = run(self.folder / "argon2", "hash", "some", "words", env=self.environment)
         found = self.runs.read_text().count("\n") if self.runs.exists() else 0
         self.runs.unlink(missing_ok=True)
@@ -75,7 +75,7 @@ class Tree:
         assert files
 
     def change_without_a_trace(self, name):
-        """Other text under the times of the old one, as a copy with its times gives it."""
+        """Changes a text but keeps its times, as a copy with times does."""
         status = (self.folder / name).stat()
         self.change(name)
         os.utime(self.folder / name, ns=(status.st_atime_ns, status.st_mtime_ns))
@@ -106,7 +106,7 @@ def test_a_changed_source_of_any_layer_is_built(tree, layer):
     (lambda tree: (tree.folder / "KIT-ID").unlink(), 0),
     (lambda tree: tree.change("bindings/out/*/argon2_tool"), 1),
 ], ids=["old times", "newer alone", "gone", "crates.txt", "another kit", "no kit", "another program"])
-def test_what_is_another_is_built_and_nothing_else(tree, change, count):
+def test_only_a_changed_source_kit_or_program_causes_a_build(tree, change, count):
     change(tree)
     tree.builds(count)
     tree.builds(0)
@@ -121,7 +121,7 @@ def test_a_source_that_changes_during_the_build_is_built_next(tree):
     tree.builds(0)
 
 
-def test_a_build_that_fails_is_status_70_with_its_words_also_where_there_was_a_program(tree):
+def test_a_failed_build_has_status_70_and_its_message_even_if_there_was_a_program(tree):
     tree.change("crates/argon2_tool/src/file")
     (tree.folder / "runs.refuse").touch()
     for _ in range(2):
@@ -147,7 +147,7 @@ def clone(built, tmp_path_factory):
 
 
 def test_a_warm_call_takes_at_most_100_milliseconds_more_than_the_program(clone):
-    """Of the processor, by turns, the least of ten."""
+    """Processor time, by turns, the least of ten."""
     def cost(program):
         before = resource.getrusage(resource.RUSAGE_CHILDREN)
         subprocess.run([program, *CHEAP], stdin=subprocess.DEVNULL, stdout=subprocess.DEVNULL, check=True)
@@ -158,7 +158,7 @@ def test_a_warm_call_takes_at_most_100_milliseconds_more_than_the_program(clone)
     assert whole - alone <= 100
 
 
-def test_without_the_toolchain_what_is_not_proved_is_linked_anew_and_what_is_proved_is_proved(clone):
+def test_a_changed_c_source_is_linked_again_and_a_changed_proved_source_needs_the_toolchain(clone):
     write_program(clone / "build/prove", '#!/bin/sh\necho "it asks for $*" >&2\nexit 1\n')
     with open(clone / "bindings/c/src/driver.h", "a") as opened:
         opened.write("/* another comment */\n")

@@ -1,6 +1,6 @@
-"""Libargon2's place (bindings/libargon2) beside Debian's libargon2: its names, the vectors of libargon2's tests, calls
-that are drawn (SEED, or any), Debian's programs over both, processes to which threads, memory or a callback's memory
-are denied, and what calls leave in memory. Faults that are planted into it have to be found.
+"""Our replacement (bindings/libargon2) beside Debian's libargon2: its names, the vectors of libargon2's tests, random
+calls (SEED, or any), Debian's programs with both, processes that are denied threads, memory or a callback's memory, and
+what calls leave in memory. Faults planted into it have to be found.
 """
 import os
 import re
@@ -76,7 +76,7 @@ def test_names_are_those_of_debian():
     assert entries(BUILT / "libargon2.so.1", "NEEDED") == ["libc.so.6"]
 
 
-def test_is_short():
+def test_the_replacement_has_at_most_280_lines():
     assert (HERE / "libargon2.c").read_text(encoding="utf-8").count("\n") <= 280
 
 
@@ -96,7 +96,7 @@ def test_links_both_archives_and_names_an_older_processor(tmp_path):
 
 # ---- what it returns
 
-# What calls leave of H0 and a tag; at most 16 threads for an encoded hash; and processes to which something is denied.
+# What calls leave of H0 and a tag; at most 16 threads for an encoded hash; and processes that are denied something.
 @pytest.mark.parametrize("words", [
     ("secrets",), ("starved", "texts", 0), *(("starved", kind, at) for kind in KINDS for at in range(20))],
     ids=lambda words: " ".join(map(str, words)))
@@ -105,7 +105,7 @@ def test_program(work, words):
 
 
 @pytest.mark.parametrize("seed", range(SEED, SEED + 4))
-def test_drawn_calls_return_what_they_do_of_debian(seed):
+def test_drawn_calls_return_the_same_as_debian_s(seed):
     run(*FUZZ, seed, CALLS, THEIRS, BUILT / "libargon2.so.1")
 
 
@@ -157,20 +157,20 @@ def test_programs_of_debian(work):
 # ---- planted faults
 
 def is_right(work, folder):
-    """Whether a library answers as it has to, as some thousand calls and processes without something can tell."""
+    """Whether a library answers correctly, judged by some thousand calls and by processes that are denied something."""
     commands = [(*FUZZ, 1, 5000, THEIRS, folder / "libargon2.so.1"),
                 *(over(folder, work / "starved", kind, 3) for kind in KINDS), over(folder, work / "secrets")]
     return all(start(*command, errors="replace").returncode == 0 for command in commands) \
         and entries(folder / "libargon2.so.1", "SONAME") == ["libargon2.so.1"]
 
 
-def test_finds_none_where_there_is_none(work):
+def test_the_unchanged_replacement_has_no_fault(work):
     assert is_right(work, work / "lib")
 
 
 @pytest.mark.parametrize("name", FAULTS)
-def test_finds(work, tmp_path, name):
-    """A text is there once, in the source or in what links it. The fault has to be built, and then to be found."""
+def test_a_planted_fault_is_found(work, tmp_path, name):
+    """A text occurs once, in the source or in build/link. The fault has to build, and then be found."""
     texts = {path.name: path.read_text(encoding="utf-8") for path in (HERE / "libargon2.c", TOP / "build/link")}
     found, = [file for file, text in texts.items() if text.count(FAULTS[name][0]) == 1]
     texts[found] = texts[found].replace(*FAULTS[name])

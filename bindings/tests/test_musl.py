@@ -30,7 +30,7 @@ extern "C" fn main() -> i32 {
     (verify(b"password") != 0 || verify(b"Password") != 64) as i32
 }
 """
-# Rust's std for the GNU C library calls these two of it, which musl does not have.
+# Rust's std for glibc calls these two functions, which musl lacks.
 OF_GLIBC = """
 #include <link.h>
 struct found { unsigned long long flags; void *begin, *end, *map, *eh_frame; unsigned long long more[7]; };
@@ -71,7 +71,7 @@ def test_loads_the_shared_object_of_the_wheel(tmp_path):
 
 
 def test_loads_the_addon(tmp_path):
-    """With as much of Node as a hash takes."""
+    """With those parts of Node that hashing needs."""
     program = loaded_by_musl(tmp_path / 'addon', '-I', BINDINGS / 'javascript/addon', '-rdynamic', TESTS / 'addon.c')
     assert run(program, MADE / 'proved_argon2.node').startswith(f'0 0 8 {TAG}')
 
@@ -90,8 +90,7 @@ def test_static_program_of_core(tmp_path):
 
 
 def with_std(cargo, folder, work, flags, *words):
-    """Runs cargo with musl in the place of the C library of Rust's std, since a target that has musl's own cannot be
-    had from Debian."""
+    """Runs cargo with musl instead of the C library of Rust's std, since Debian has no target with musl's std."""
     (work / 'of_std.c').write_text(OF_GLIBC, encoding='utf-8')
     run(*CC, '-c', work / 'of_std.c', '-o', work / 'of_std.o')
     static = ('linker=musl-gcc', 'target-feature=+crt-static', 'relocation-model=static',
@@ -105,7 +104,7 @@ def with_std(cargo, folder, work, flags, *words):
 
 @needs('cargo')
 def test_crate_passes_its_tests(cargo, tmp_path):
-    """Among them are the outside vectors by threads."""
+    """They include the outside vectors by threads."""
     shown = with_std(cargo, BINDINGS / 'rust', tmp_path, [], 'test', '--tests', '--no-fail-fast')
     assert len(re.findall(r'^test .* \.\.\. ok$', shown, re.M)) >= 26
     program = re.search(r'Running tests.vectors\.rs \((.*)\)$', shown, re.M)[1]
@@ -114,7 +113,7 @@ def test_crate_passes_its_tests(cargo, tmp_path):
 
 @needs('cargo')
 def test_crate_clears_what_it_keeps(cargo, tmp_path):
-    """(from call to call, by one thread and by several: the program ends well if all of its checks hold)"""
+    """(between calls, by one thread and by several: the program succeeds if all its checks do)"""
     folder = project(tmp_path / 'keeping', (TESTS / 'memory.rs').read_text(encoding='utf-8'))
     with_std(cargo, folder, tmp_path,
              ['link-arg=-Wl,--wrap=proved_argon2_memory_new,--wrap=pthread_create'], 'run', '--quiet')

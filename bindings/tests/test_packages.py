@@ -1,6 +1,6 @@
-"""Makes the packages, here and elsewhere as somebody else, and looks into each. From each alone, without the kit and
-this repository, the first lines of the pages run (debian/tests), and once it is removed nothing is left. Fresh systems
-of other years install, and change to libargon2's place and back."""
+"""Makes the packages, here and elsewhere as another user, and inspects each. With each alone, without the kit and this
+repository, the first lines of the pages run (debian/tests), and its removal leaves nothing. Fresh systems of other
+years install, and switch to the replacement of libargon2 and back."""
 
 import os
 import re
@@ -55,7 +55,7 @@ def read(file):
 
 
 def copy_tree(folder):
-    """What a user has of the repository, without what was built."""
+    """What users get of the repository, without built files."""
     return shutil.copytree(TOP, folder, symlinks=True, ignore=shutil.ignore_patterns('out', 'target', '.git'))
 
 
@@ -69,7 +69,7 @@ def packages(tmp_path_factory):
 
 @pytest.fixture(scope='session')
 def unpacked(packages, tmp_path_factory):
-    """A folder for each package, by its name, with what it has."""
+    """By each package's name, a folder with its contents."""
     folder = tmp_path_factory.mktemp('unpacked')
     for name in NAMES:
         (folder / name).mkdir()
@@ -81,12 +81,12 @@ def unpacked(packages, tmp_path_factory):
 
 @pytest.fixture
 def there():
-    """A folder that others reach, as they do not those of pytest."""
+    """A folder that other users can reach, unlike pytest's."""
     with tempfile.TemporaryDirectory() as folder:
         yield Path(folder)
 
 
-def test_elsewhere_by_somebody_else_they_are_the_same_bytes(packages, there):
+def test_packages_made_elsewhere_by_another_user_have_the_same_bytes(packages, there):
     """In another folder, by another user with another umask, clock, zone and language, and one processor."""
     tree, home = copy_tree(there / 'tree'), there / 'home'
     run('bash', '-c', f'install -d -m 777 {home} && chmod -R a+rX {there}')
@@ -106,7 +106,7 @@ def test_lintian_finds_nothing(packages):
 # ---- what is in them
 
 @pytest.mark.parametrize('name', NAMES)
-def test_all_is_of_root_and_has_its_mode(packages, name):
+def test_each_file_belongs_to_root_and_has_its_mode(packages, name):
     """No archive has an entry for a folder that is not ours, which would change that of the system."""
     found = ENTRY.findall(run(*LISTS.get(Path(name).suffix, ['tar', '-tvf']), packages / name))
     wrong = [(mode, owner, path) for kind, mode, owner, path in found if owner not in ('root/root', '0/0', '2.0')
@@ -120,7 +120,7 @@ def test_all_is_of_root_and_has_its_mode(packages, name):
 @pytest.mark.parametrize('file, count', [
     ('libproved_argon2.a', 4), (f'libproved_argon2.so.{VERSION}', 3), ('libargon2.a', 2), ('libargon2.so.1', 2),
     ('argon2', 1), ('proved_argon2.node', 1)])
-def test_what_is_released_is_packed_to_the_byte(unpacked, machine, file, count):
+def test_released_files_are_packed_byte_for_byte(unpacked, machine, file, count):
     content = (TOP / 'release' / machine / file).read_bytes()
     assert count == sum(path.read_bytes() == content for path in unpacked.rglob('*')
                         if path.is_file() and not path.is_symlink() and path.stat().st_size == len(content))
@@ -158,7 +158,7 @@ def test_the_copyright_names_one_licence_for_all_files(unpacked, name):
 
 
 @pytest.mark.parametrize('name', ASKS)
-def test_a_package_for_debian_asks_for_what_it_needs_alone(packages, unpacked, name):
+def test_a_package_for_debian_depends_only_on_what_it_needs(packages, unpacked, name):
     fields = run('dpkg-deb', '-f', packages / name, 'Architecture', 'Maintainer', 'Homepage', 'Depends',
                  'Recommends', 'Suggests')
     assert sorted(fields.splitlines()) == [
@@ -198,7 +198,7 @@ cp -r "$2" "$all/packages"
 for hidden in /opt/rattle "$3"; do [[ ! -d $hidden ]] || mount --bind "$1/hidden" "$all$hidden"; done
 mount --rbind /dev "$all/dev" && mount -t proc proc "$all/proc"
 exec chroot "$all" env -i HOME=/root PATH=/usr/local/bin:/usr/sbin:/usr/bin:/sbin:/bin bash -Eeuo pipefail -c "$4"'''
-# Nothing may be there in the end that was not, and nothing be gone, but for what the system notes for itself.
+# In the end nothing may be new or gone, except for the system's own notes.
 BEFORE = '''
 trap 'echo "status $?: $BASH_COMMAND" >&2' ERR
 cd /packages; scratch=$(mktemp -d)
@@ -279,7 +279,7 @@ def with_pages(packages, tmp_path_factory):
 
 
 @pytest.mark.parametrize('name', [pytest.param(name, marks=needs(*NEEDS.get(name, []))) for name in FROM])
-def test_from_the_package_alone(with_pages, tmp_path, name):
+def test_each_package_works_alone_and_leaves_nothing_when_removed(with_pages, tmp_path, name):
     if name == 'libargon2' and not any((with_pages / 'theirs').iterdir()):
         pytest.skip('there is no package of Debian for the way back')
     run(*in_namespace(ALONE, tmp_path, with_pages, TOP, BEFORE + FROM[name]))
@@ -325,7 +325,7 @@ FRESH = {'bookworm': [INSTALLS, SWAPS, THERE_AND_BACK, UPGRADE, INSTALLS, THERE_
 @needs('mmdebstrap')
 @pytest.mark.parametrize('release', FRESH)
 def test_a_fresh_system(packages, tmp_path, release):
-    """(Ubuntu's mirror is beside that of Debian, which has no keys of it.)"""
+    """(Ubuntu's mirror is beside Debian's, which lacks its keys.)"""
     system, of, sources = tmp_path / 'system', *(
         ('ubuntu', 'deb [trusted=yes] {} noble main') if release == 'noble' else ('debian', '{}'))
     mirror = run('bash', '-c', f'. bindings/tests/fetching.bash; mirror_of {of}').strip()

@@ -113,8 +113,8 @@ def test_pip_installs_nothing_without_the_needed_c_library_and_says_so(tmp_path,
 
 @by_pip
 def test_an_editable_installation_uses_the_library_beside_python(installed, package, tmp_path):
-    """A change of the folder has an effect. The library is where ./install "$VIRTUAL_ENV" puts it, and is used unless
-    the system's loader finds another one."""
+    """Changes in the folder take effect. The library is where ./install "$VIRTUAL_ENV" puts it, and is used unless the
+    system's loader finds another one."""
     edited, python = tmp_path / "edited", tmp_path / "environment/bin/python"
     shutil.copytree(package, edited)
     run(PYTHON, "-m", "venv", "--system-site-packages", tmp_path / "environment")

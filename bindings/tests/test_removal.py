@@ -1,4 +1,4 @@
-"""Installs over itself and elsewhere, and takes it away again."""
+"""Installs over an installation and elsewhere, and removes everything again."""
 import os
 import pathlib
 import re
@@ -12,7 +12,7 @@ from test_install import EXPECTED, LIBRARY, files_in
 
 OLDEST = re.search(r"^oldest_libc=(.*)", (TOP / "install").read_text(), re.M)[1]
 NOBODY = ["setpriv", "--reuid=65534", "--regid=65534", "--clear-groups"]
-# In /usr/local, of which this run alone sees what is put there, and its own /etc with the loader's list.
+# In a private /usr/local, and with a private /etc with the loader's list.
 IN_USR_LOCAL = """cp -a /etc "$1/etc" && mount --bind "$1/etc" /etc && mount -t tmpfs none /usr/local
 ./install && ldconfig -p | grep "/usr/local/lib/$2.1$"
 PYTHONPATH=bindings/python/src PROVED_ARGON2_LIBRARY=$2.1 python3 -B -c "import proved_argon2"
@@ -22,7 +22,7 @@ PYTHONPATH=bindings/python/src PROVED_ARGON2_LIBRARY=$2.1 python3 -B -c "import 
 
 @pytest.fixture
 def folder():
-    """A folder that everybody may look into."""
+    """A folder that everybody may read."""
     made = pathlib.Path(tempfile.mkdtemp())
     made.chmod(0o755)
     yield made
@@ -48,7 +48,7 @@ def test_it_installs_over_an_older_one_and_removes_what_is_its_own_alone(prefix)
     assert {str(path.relative_to(prefix)) for path in prefix.rglob("*")} == {"lib", "lib/another"}
 
 
-def test_it_honours_destdir(folder):
+def test_destdir_stages_and_removes_all_files(folder):
     stage = {"DESTDIR": folder / "stage"}
     run("./install", "/opt/argon2", env=stage)
     there = folder / "stage/opt/argon2"
@@ -77,7 +77,7 @@ def test_the_loader_is_told_of_usr_local(folder):
 
 @pytest.mark.parametrize("mask", ["000", "022", "077"])
 def test_what_is_installed_has_its_modes_under_each_umask(folder, mask):
-    """Of a careful root, of one who is not, and in the folders of a group."""
+    """With the umask of a careful root, a careless one, and a group."""
     prefix = folder / f"mask/{mask}"
     run("sh", "-c", 'umask "$0" && exec ./install "$1"', mask, prefix)
     for path in [prefix, *prefix.rglob("*")]:
@@ -103,7 +103,7 @@ def test_a_link_in_the_place_of_a_new_file_is_not_followed(folder):
 @pytest.mark.parametrize("said", ["echo glibc 2.31", "echo glibc 2.5", "echo glibc 2.33", "echo undefined; exit 1",
                                   "exit 127", f"echo glibc {OLDEST}", "echo glibc 2.100"])
 def test_an_older_c_library_and_another_one_are_refused_by_one_line(folder, said):
-    """As the system names it; but not where a package is made."""
+    """The system names the library. Packages are made anyway."""
     (folder / "getconf").write_text(f"#!/bin/sh\n{said}\n")
     (folder / "getconf").chmod(0o755)
     named = {"PATH": f"{folder}:{os.environ['PATH']}"}
@@ -116,7 +116,7 @@ def test_an_older_c_library_and_another_one_are_refused_by_one_line(folder, said
     run("./install", "/usr", env={"DESTDIR": folder / "stage", **named})
 
 
-def test_what_is_installed_asks_for_no_newer_c_library(installed):
+def test_installed_files_need_no_newer_c_library_than_stated(installed):
     files = [path for path in installed.rglob("*") if path.is_file() and re.match(f"{LIBRARY}|argon2_", path.name)]
     found = re.findall(r"GLIBC_([\d.]+)", run("readelf", "-VW", *files))
     assert max(found, key=lambda version: [*map(int, version.split("."))]) == OLDEST
@@ -134,7 +134,7 @@ def test_it_can_be_removed_after_a_fault_in_the_middle(folder):
 @pytest.mark.skipif(os.geteuid() == 0 and start(*NOBODY, "test", "-r", "install").returncode != 0,
                     reason="only root can read the repository")
 def test_a_user_without_rights_is_refused(folder):
-    """Where we are root, somebody who is not; else a folder that we may not write to."""
+    """As root, another user installs; otherwise the folder is not writable."""
     folder.chmod(0o555)
     refuses(1, "no right to write", *(NOBODY if os.geteuid() == 0 else []), "./install", folder / "prefix")
     assert [*folder.iterdir()] == []

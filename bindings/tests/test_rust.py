@@ -340,7 +340,7 @@ def test_the_public_items_are_those_of_the_list(built, cargo, tmp_path):
 
 
 def test_the_rust_of_debian_12_is_the_oldest_and_compiles_all_features(built, cargo, tmp_path):
-    """It runs in CI, which is Debian 12."""
+    """This runs in CI, on Debian 12."""
     compiler = pathlib.Path("/usr/bin/rustc")
     if not compiler.exists() or "bookworm" not in pathlib.Path("/etc/os-release").read_text():
         pytest.skip("there is no rustc of Debian 12")

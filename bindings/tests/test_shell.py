@@ -56,7 +56,7 @@ def limits():
     ([*HASH[:5], "", *HASH[6:]], b"x"), (["check", "x", "y"], b"x"),
 ], ids=lambda value: f"{value!r:.40}")
 def test_words_are_passed_on_as_they_are(words, password):
-    """What the program says to each kind of command, and to what a shell might change."""
+    """The program answers each kind of command, also with words that shells might change."""
     theirs = piped(words, password, command=[TOOL])
     if words[:1] != ["new"]:
         assert piped(words, password) == theirs
@@ -142,8 +142,8 @@ def salt_of(output):
     return base64.b64decode(output.split(b"$")[4] + b"==", validate=True)
 
 
-def test_new_makes_a_text_with_owasp_s_settings_and_a_random_salt():
-    """In which Python finds nothing to renew."""
+def test_new_prints_a_hash_with_owasp_s_settings_and_a_random_salt():
+    """Python finds nothing to renew in it."""
     texts = [piped(["new"], b"password") for _ in range(2)]
     for status, output, errors in texts:
         assert (status, errors, len(salt_of(output))) == (0, b"", 16)
@@ -178,7 +178,7 @@ def test_new_takes_any_bytes_and_tells_of_a_newline_at_the_end(password, ends_wi
 @pytest.mark.parametrize("settings, password, status, errors", [
     (SMALL, b"", 2, b"empty"), ("argon2id 19 1 7 1 16 seq".split(), b"x", 2, b"Memory cost is too small\n"),
     ("argon2id 19 1000000 8 1 16 seq".split(), b"x", 5, ABOVE), (SMALL, b"x" * 65537, 2, b"Password is too long\n")])
-def test_new_makes_no_text_of_what_is_rejected(settings, password, status, errors):
+def test_new_prints_no_hash_if_its_input_is_rejected(settings, password, status, errors):
     ended, output, said = piped(["new", *settings], password)
     assert (ended, output) == (status, b"") and errors in said and (settings == SMALL or errors == said)
 
@@ -186,7 +186,7 @@ def test_new_makes_no_text_of_what_is_rejected(settings, password, status, error
 @pytest.mark.parametrize("words", [["new", *SMALL], ["new"], ["check", STORED]], ids=" ".join)
 @pytest.mark.parametrize("script", ['"$@" </dev/zero', 'yes | "$@"'])
 def test_an_input_without_end_is_refused_in_little_memory(words, script):
-    """All processes of the words have 64 MiB each, and what is read is far less."""
+    """Each process has 64 MiB, and reads far less."""
     limited = ["prlimit", f"--as={64 << 20}", *COMMAND]
     done = subprocess.run(["sh", "-c", script, "sh", *limited, *words], capture_output=True, timeout=60)
     assert (done.returncode, done.stdout, done.stderr.splitlines()[0]) == (2, b"", b"Password is too long")
@@ -203,7 +203,7 @@ def test_new_makes_no_text_of_an_input_that_cannot_be_read(redirection):
     (STORED + "\n", b"password", (0, b"true\n")), (STORED, b"Password", (1, b"false\n")),
     (STORED + "\nmore\n", b"password", (0, b"true\n")), (COSTLY, b"password", (5, b"")), ("", b"password", (4, b"")),
     (None, b"password", (4, b""))])
-def test_check_takes_a_text_from_a_descriptor(tmp_path, text, password, expected):
+def test_check_reads_an_encoded_hash_from_a_descriptor(tmp_path, text, password, expected):
     opened = "exec 3<&-; " if text is None else 'exec 3<"$0"; '
     (tmp_path / "text").write_text(text or "")
     words = ["sh", "-c", opened + 'exec "$@" check -', tmp_path / "text", *COMMAND]
@@ -214,7 +214,7 @@ def test_check_takes_a_text_from_a_descriptor(tmp_path, text, password, expected
 @pytest.mark.parametrize("known", [
     bytes(range(0xE0, 0xF0)), bytes(16), bytes(range(16)), b"", bytes(range(0xE0, 0xEF))], ids=bytes.hex)
 def test_the_salt_of_new_is_what_the_system_gives_and_all_of_it(tmp_path, known):
-    """Of the system 16 random bytes are asked for."""
+    """It asks the system for 16 random bytes."""
     od, asked = tmp_path / "od", "-An -v -tx1 -N16 /dev/urandom"
     od.write_text(f"""#!/bin/sh\n[ "$*" = '{asked}' ] || exec {shutil.which("od")} "$@"\necho ' {known.hex(" ")}'\n""")
     od.chmod(0o755)
@@ -241,7 +241,7 @@ STILL = "echo 1700000000000000000"
 
 @pytest.fixture
 def run_script(tmp_path):
-    """Runs a function of the script, with a program, a clock and variables of the environment."""
+    """Runs a function of the script with a program, a clock and environment variables."""
     def run(program, *words, date=None, stdin=b"", **variables):
         for name, text in (("program", program), ("date", date)):
             if text is not None:
@@ -282,7 +282,7 @@ exit 1
 
 
 @pytest.mark.parametrize("load, is_busy", [("1000.25", True), ("0.00", False)])
-def test_tune_says_where_the_machine_was_busy(run_script, limits, load, is_busy):
+def test_tune_warns_if_the_machine_was_busy(run_script, limits, load, is_busy):
     words = f"echo {load} 0 0 1/2 3 >\"$FOLDER/load\"; main tune 250 8192"
     status, output, errors = run_script("cat >/dev/null", "eval", words, date=STILL)
     assert (status, output) == (0, b"argon2id 19 %d 8192 1 32 seq\n" % limits.time_cost)
@@ -291,7 +291,7 @@ def test_tune_says_where_the_machine_was_busy(run_script, limits, load, is_busy)
 
 @pytest.mark.parametrize("row", TUNINGS, ids=" ".join)
 def test_tune_finds_what_the_table_says(run_script, limits, tmp_path, row):
-    """Each hash moves the clock on, by a nanosecond less than is rounded up."""
+    """Each hash advances the clock by a nanosecond less than rounds up."""
     milliseconds, kib, power, *found = row
     (tmp_path / "clock").write_text("1700000000000000000")
     cost = " * ".join(["3000000 * $5", *["$4"] * int(power)])
@@ -313,7 +313,7 @@ def test_tune_ends_where_check_takes_no_hash(run_script):
 
 
 def test_the_least_passes_are_those_that_owasp_advises(run_script):
-    """Of each of its choices, as the library has them, whose least memory and least work are the bounds."""
+    """For each OWASP preset of the library: the least memory and least work are the bounds."""
     presets = [numbers(f"owasp{number}") for number in range(1, 6)]
     for found in presets:
         done = run_script("cat >/dev/null", "main", "tune", "1", str(found.mem_cost), date=STILL)
@@ -335,7 +335,7 @@ def test_tune_prints_settings_that_new_takes():
 # ---- on a terminal
 
 class Terminal:
-    """A run of the words on a terminal, with standard output apart."""
+    """A run of the words on a terminal, with separate standard output."""
 
     def __init__(self, words, *typed, env=None):
         self.master, self.slave = os.openpty()

@@ -1,5 +1,5 @@
-"""The WebAssembly modules: what they import, export, compute and reject, in Node. Linked twice they are the same; they
-cut addresses before they add constants to them; and modules that were linked wrongly are found."""
+"""The WebAssembly modules: what they import, export, compute and reject, in Node. Linking twice gives the same files;
+they cut addresses before adding constants to them; and wrongly linked modules are found."""
 import re
 import shutil
 
@@ -9,7 +9,7 @@ from running import TOP, needs, run, start
 ARCHIVE = TOP / "bindings/out/wasm64-unknown-unknown/libargon2_c.a"
 CALLS = re.findall(r'^pub extern "C" fn (proved_argon2_[a-z0-9_]*)', "".join(
     file.read_text() for file in (TOP / "crates/argon2_c/src").glob("*.rt")), re.M)
-# An address that is cut behind its sum, which engines would add by themselves.
+# An address that is cut after its addition, which engines could do themselves.
 SUM = re.compile(r"i64\.const -?\d{1,9}\n *i64\.add\n *i32\.wrap_i64\n")
 HOST = """1i\\	.functype	of_the_host () -> ()
 1i\\	.import_module	of_the_host, env
@@ -20,7 +20,7 @@ pytestmark = needs("node", "wasm2wat")
 
 @pytest.fixture(scope="module")
 def modules():
-    """The folder with both, as they are built here."""
+    """The folder with both modules, as built here."""
     run("build/make", "wasm32", timeout=4800)
     return TOP / "bindings/out/wasm32"
 
@@ -32,7 +32,7 @@ def judge(folder):
 
 
 def link(folder, file=None, change=None):
-    """Links in another folder, with a change of what links."""
+    """Links in another folder, with a changed script."""
     for name in ("build", "bindings/wasm", "crates/argon2_c/src"):
         shutil.copytree(TOP / name, folder / name)
     if file is not None:

@@ -224,7 +224,7 @@ export function tune(milliseconds: number, options?: TuneOptions): Promise<Tunin
 /** Whether a PHC string has other settings than these. Settings that are left out have their defaults. */
 export function needsRehash(encoded: string, options?: Settings): Promise<boolean>;
 
-/** Settings of which none is left out. */
+/** Settings with no field left out. */
 export type Preset = Readonly<Required<Settings>>;
 
 /** Recommended settings. OWASP calls its five equal in strength; RFC 9106, 4, recommends its own with four lanes. */

@@ -1,5 +1,5 @@
-// Chromium, Firefox and WebKit without a window, each with the page of a folder and the package that is installed. No
-// protocol of theirs is needed: the page is in a frame, and what is around it asks a server here what to do.
+// Chromium, Firefox and WebKit without a window, each with a folder's page and the installed package. This needs no
+// browser protocol: the page is in a frame, and the page around it asks a server here what to do.
 import { spawn, spawnSync } from 'node:child_process';
 import { EventEmitter, once } from 'node:events';
 import { createReadStream, existsSync, mkdtempSync, rmSync, writeFileSync } from 'node:fs';
@@ -10,19 +10,19 @@ import { PassThrough } from 'node:stream';
 import { json } from 'node:stream/consumers';
 import { fileURLToPath } from 'node:url';
 
-/** Whether a program is there, a browser or another one. */
+/** Whether a program exists, such as a browser. */
 export const isThere = (program) => spawnSync('sh', ['-c', `command -v ${program}`]).status === 0;
 
 /** A browser, or its page, has ended while something waited for it. */
 export class BrowserEnded extends Error {}
 
-/** How long anything of a browser may take, in milliseconds: nothing waits for ever. */
+/** The timeout of a browser's steps, in milliseconds: nothing waits for ever. */
 const LONGEST_WAIT = 300000;
 const TYPES = { '.html': 'text/html', '.css': 'text/css', '.js': 'text/javascript', '.wasm': 'application/wasm' };
 /** What isolates a page from other origins, so that its workers can share a memory. */
 const ISOLATED = { 'Cross-Origin-Opener-Policy': 'same-origin', 'Cross-Origin-Embedder-Policy': 'require-corp' };
 
-/** What is around a page: it tells what expressions give that have the page's document, and its frame. */
+/** The page around a page: it reports the values of expressions with the page's document and frame. */
 const AROUND = `<!doctype html><meta charset="utf-8"><title>A page in a frame</title><body><script>
 const frame = Object.assign(document.createElement('iframe'), { src: '/', width: 1040, height: 700 });
 async function answer({ data }) {
@@ -36,7 +36,7 @@ frame.addEventListener('load', () => { new EventSource('/asked').onmessage = ans
 document.body.append(frame);
 </script>`;
 
-/** The bytes that a process and those below it have written and keep: without the files that they map. */
+/** The bytes that a process and its children have written and keep, without mapped files. */
 function memoryBelow(first) {
     const command = 'grep -sE "^(PPid|RssAnon|RssShmem):" /proc/[0-9]*/status';
     const { stdout } = spawnSync('sh', ['-c', command], { encoding: 'utf8' });
@@ -49,7 +49,7 @@ function memoryBelow(first) {
         .reduce((bytes, [, { RssAnon, RssShmem }]) => bytes + 1024 * (RssAnon + RssShmem), 0);
 }
 
-/** Sends the file of a path: those of the package are the installed ones. */
+/** Sends the file of a path; the package's files are the installed ones. */
 function sendFile(path, folder, response, headers) {
     const installed = dirname(fileURLToPath(import.meta.resolve('proved-argon2')));
     const [, inPackage] = path.match(/^\/proved-argon2\/(.*)/) ?? [];
@@ -62,7 +62,7 @@ function sendFile(path, folder, response, headers) {
     }
 }
 
-/** A browser with a profile and a server of its own, which go with it. */
+/** A browser with its own profile and server, which end with it. */
 class Browser {
     profile = mkdtempSync(join(tmpdir(), 'browser-'));
     #asked = new PassThrough();
@@ -90,7 +90,7 @@ class Browser {
         return this;
     }
 
-    /** Answers what is around the page, if it is that. What it asks for goes on until the page has ended. */
+    /** Answers the page around the page, if it asks. Its request lasts until the page has ended. */
     #converse(path, request, response, isolated) {
         const type = { '/around': 'text/html', '/asked': 'text/event-stream', '/answered': 'text/plain' }[path];
         if (type === undefined) {
@@ -118,7 +118,7 @@ class Browser {
         process.once('exit', () => this.kill());
     }
 
-    /** What waits for it fails, and what is asked later. */
+    /** Waiting requests fail, and so do later ones. */
     #end(how) {
         this.#ending.abort(new BrowserEnded(`${this.constructor.name}: ${how}`));
     }
@@ -143,7 +143,7 @@ class Browser {
         return memoryBelow(this.#process.pid);
     }
 
-    /** What an expression gives, or the promise that it is. */
+    /** The value of an expression, or of its promise. */
     async evaluate(expression) {
         const { signal } = this.#ending;
         signal.throwIfAborted();
@@ -164,7 +164,7 @@ class Browser {
         await this.evaluate(`(async () => { while (!(${expression})) ${pause}; })()`);
     }
 
-    /** What a program gives that runs as a module of the page. */
+    /** The value of a program, run as the page's module. */
     resultOf(program) {
         const module = `(async () => {${program}})().then(resolve, reject);`;
         return this.evaluate(`new Promise((resolve, reject) => {
@@ -185,7 +185,7 @@ export class Chromium extends Browser {
 
 export class Firefox extends Browser {
     static command = ['firefox-esr'];
-    /** It has no other pages and processes than this one's, and lets it compute for long without a pause. */
+    /** It has only this page and its processes, and lets it compute for long without a pause. */
     static settings = `
         user_pref("browser.newtab.preload", false);
         user_pref("browser.startup.homepage_override.mstone", "ignore");
@@ -203,7 +203,7 @@ export class Firefox extends Browser {
 /** The browser of WebKitGTK, on a display that nobody looks at. WebKit is Safari's engine. */
 export class WebKit extends Browser {
     static command = ['xvfb-run', '--auto-servernum', '/usr/lib/x86_64-linux-gnu/webkit2gtk-4.1/MiniBrowser'];
-    // (in Safari the memories of an isolated page can be shared; WebKitGTK wants to be told)
+    // (in Safari, isolated pages can share memory; WebKitGTK needs an option)
     static variables = { GDK_BACKEND: 'x11', JSC_useSharedArrayBuffer: '1' };
     options = ['--private'];
 }

@@ -1,4 +1,4 @@
-// The package as bundlers, module systems and policies for content meet it. docs/JAVASCRIPT.md has these lines.
+// The package with bundlers, module systems and content security policies. docs/JAVASCRIPT.md has these lines.
 import assert from 'node:assert/strict';
 import { execFile } from 'node:child_process';
 import { mkdtempSync, readFileSync, writeFileSync } from 'node:fs';
@@ -15,7 +15,7 @@ const INLINE_POLICY = "default-src 'none'; script-src 'self' 'wasm-unsafe-eval';
 const FILES_POLICY = "default-src 'none'; script-src 'self' 'wasm-unsafe-eval'; connect-src 'self'";
 const sources = dirname(fileURLToPath(import.meta.resolve('proved-argon2')));
 
-/** A program that tells two verdicts, by some lines that import. It is for Node and for pages. */
+/** A program that prints two verdicts, with these import lines. It is for Node and pages. */
 const programOf = (imports) => `${imports}
 async function tell() {
     const encoded = await hash('password', { memoryCost: 256, parallelism: 2 });
@@ -65,7 +65,7 @@ const NODE_OPTIONS = `--require=${join(import.meta.dirname, 'debian.cjs')}`;
 const env = { ...process.env, NODE_PATH: '/usr/share/nodejs', NODE_OPTIONS };
 const run = (folder, command, ...words) => promisify(execFile)(command, words, { cwd: folder, timeout: 600000, env });
 
-/** What a folder's page tells, which has its program as bundle.js. */
+/** The output of a folder's page, whose program is bundle.js. */
 async function runsInPage(folder, policy, isIsolated) {
     writeFileSync(join(folder, 'index.html'), PAGE);
     const browser = await new Chromium().open(folder, { isIsolated, policy });
@@ -77,7 +77,7 @@ async function runsInPage(folder, policy, isIsolated) {
     }
 }
 
-/** Why a test is skipped: it wants programs of which one is not there. */
+/** Why a test is skipped: a program that it needs is missing. */
 function lacks(...programs) {
     const lacking = programs.find((program) => !isThere(program));
     return lacking === undefined ? false : `there is no ${lacking}`;

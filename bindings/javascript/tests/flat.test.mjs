@@ -1,4 +1,4 @@
-// The memory of a process is flat: over calls of several kinds, after idling, and where workers die.
+// A process's memory does not grow over calls of several kinds, after idling, or if workers die.
 import assert from 'node:assert/strict';
 import os from 'node:os';
 import { test } from 'node:test';
@@ -10,17 +10,17 @@ const CALLS = 300;
 /** In KiB. The larger one is as much as a worker's memory may take. */
 const SIZES = [4096, 16384];
 const LANES = [1, 4];
-/** What a process may have more than it began with: the code and the heaps of its workers. */
+/** How much a process may grow: by its workers' code and heaps. */
 const BESIDES = 96 * MIB;
 /** How long workers stay, in milliseconds. */
 const LONG = 1000;
 const SOON = 50;
-/** So many passes that a call is killed long before it could end. */
+/** Enough passes that a call is killed long before its end. */
 const ENDLESS = 2 ** 20;
 
 os.availableParallelism = () => WORKERS;
 
-// (what the package drops is to go)
+// (dropped memory has to be collected)
 process.env.KEEPS_INSTANCES = 'no';
 const { letStay, workers } = await import('./watching.mjs');
 const argon2 = await import('proved-argon2');
@@ -86,7 +86,7 @@ for (const [what, [calls, stay, memories, makeCall]] of Object.entries(KINDS)) {
             await makeCall(call);
             most = Math.max(most, above());
         }
-        // (where workers end soon, theirs may be gone before it is seen)
+        // (if workers end soon, their memory may be gone unseen)
         assert.ok(stay < LONG || memories < WORKERS || most > SIZES[1] * 1024 / 2, 'no memory was seen');
         assertFlat(most, memories);
         letStay(SOON);

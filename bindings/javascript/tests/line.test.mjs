@@ -1,5 +1,5 @@
-// A line: so many calls compute at a time, so many wait in their order, others are rejected at once, and each call that
-// ends in any way frees its place.
+// A line: a number of calls compute, more wait in order, others are rejected at once, and each call frees its place,
+// however it ends.
 import assert from 'node:assert/strict';
 import os from 'node:os';
 import { test } from 'node:test';

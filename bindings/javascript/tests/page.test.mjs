@@ -14,7 +14,7 @@ const CALLS = 300;
 const AT_ONCE = 10;
 /** In KiB. The larger one is as much as a worker's memory may take. */
 const MEMORIES = [4096, 16384];
-/** What a browser may keep more than it began with: the code and the heaps of its workers. */
+/** How much a browser may grow: by its workers' code and heaps. */
 const BESIDES = 64 * MIB;
 /** Workers end after 5 seconds without work. */
 const IDLE = { tries: 40, pause: 500 };
@@ -50,7 +50,7 @@ async function submit(browser, form) {
     return statusOf(browser, form);
 }
 
-/** Imports the package into a page that has so many processors. */
+/** Imports the package into a page with this many processors. */
 const IMPORTED = `
     Object.defineProperty(navigator, 'hardwareConcurrency', { value: ${WORKERS}, configurable: true });
     const argon2 = await import('/proved-argon2/index.js');`;

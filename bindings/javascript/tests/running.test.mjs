@@ -45,7 +45,7 @@ test('the addon also computes if the package is loaded by require', async () => 
     assert.deepEqual(tag, await argon2.hash('password', NATIVE));
 });
 
-/** How a process ends that runs some lines once it is in the middle of a hash, and how long that takes. */
+/** The exit status of a process that runs some lines in the middle of a hash, and the time it takes. */
 async function endOf(lines) {
     const program = `import { hash } from 'proved-argon2';
         const onProgress = (done) => done === 2 && end();
@@ -185,7 +185,7 @@ test('after a call its signal has no listener, and aborting it does nothing', as
     assert.equal(await argon2.verify(await argon2.hash('password', { ...SMALL, raw: false }), 'password'), true);
 });
 
-/** What computes in a process: the workers, or the threads of the addon and a few of Node's own, which come and go. */
+/** What computes in a process: workers, or the addon's threads and a few of Node's own, which come and go. */
 const COMPUTING = {
     workers: [false, () => workers.length, availableParallelism()],
     threads: [true, () => readdirSync('/proc/self/task').length, 2 * availableParallelism()],

@@ -8,7 +8,7 @@ import { createInterface } from 'node:readline';
 import { test } from 'node:test';
 import * as argon2 from 'proved-argon2';
 
-/** No byte of a secret is in the process that looks: it has them changed by this. */
+/** The searching process contains no secret: it holds each byte changed by this. */
 const MASK = 0x5a;
 const ROUNDS = 24;
 /** Bytes of a secret that are enough to know it by. */
@@ -23,7 +23,7 @@ const hidden = (bytes) => Array.from(bytes, (byte) => (byte ^ MASK).toString(16)
 /** Outside the engine's heap, where a caller can overwrite them. */
 const drawn = () => randomFillSync(Buffer.allocUnsafeSlow(LENGTH));
 
-/** What a process may write, piece by piece. Pages that are not there are left out. */
+/** The writable memory of a process, piece by piece, without absent pages. */
 function* memoryOf(pid) {
     const file = openSync(`/proc/${pid}/mem`);
     for (const [, ...bounds] of readFileSync(`/proc/${pid}/maps`, 'utf8').matchAll(/^(\w+)-(\w+) rw/gm)) {
@@ -56,7 +56,7 @@ const unmask = (line) => Buffer.from(line, 'hex').map((byte) => byte ^ MASK);
 /** The tag of an encoded hash, whose characters stay in the process. */
 const tagOf = (encoded) => Buffer.from(encoded.split('$').at(-1), 'base64');
 
-/** What a process says until it is done, and then what is in its memory. */
+/** A process's output until it is done, and then its memory. */
 async function lookInto(words) {
     const child = spawn(process.execPath, words, { cwd: import.meta.dirname, stdio: ['pipe', 'pipe', 'inherit'] });
     const lines = [];

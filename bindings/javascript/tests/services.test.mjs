@@ -175,7 +175,7 @@ test('without random bytes a right password still matches, but is not hashed ane
     }
 });
 
-/** What a call of the module writes of its structure, as numbers of 32 bits. */
+/** The structure that a call of the module writes, as 32-bit numbers. */
 async function numbersOf(name, count) {
     const memory = await openMemory();
     const place = memory.take(4 * count);

@@ -11,7 +11,7 @@ const WORKERS = 8;
 os.availableParallelism = () => WORKERS;
 const base64 = (bytes) => bytes.toString('base64').replaceAll('=', '');
 
-/** What a call gives: its value, or `ERR` and the words of its error. */
+/** A call's result: its value, or `ERR` and its error's words. */
 async function answerOf(call) {
     try {
         return await call;

@@ -10,7 +10,7 @@ const STAYS = 5000;
 /** Each instance of the package's with its memory, so that what the package drops can be looked at too. */
 const instances = [];
 const keepsInstances = process.env.KEEPS_INSTANCES !== 'no';
-/** The workers that are not gone. */
+/** The workers that still exist. */
 export const workers = [];
 let started = 0;
 let stays = 3600000;
@@ -29,7 +29,7 @@ WebAssembly.instantiate = async (...values) => {
 const held = (memory, from, to) => new Uint32Array(memory.buffer, from, (to - from) / 4)
     .reduce((bytes, word) => bytes + (word === 0 ? 0 : 4), 0);
 
-/** How many bytes of the memories are in words that are not zero, but for the module's tables, and how many in all. */
+/** How many bytes of the memories are in non-zero words outside of the module's tables, and how many in all. */
 export function look() {
     const memories = instances.map(({ base, memory }) => {
         const bytes = memory.buffer.byteLength;
@@ -52,18 +52,18 @@ export async function lookIntoWorkers() {
     return found;
 }
 
-/** How long workers stay that have nothing to do from now on: else they may go while a test waits for its turn. */
+/** How long idle workers stay from now on: otherwise they may end while a test waits. */
 export function letStay(milliseconds) {
     stays = milliseconds;
 }
 
-/** A call that says how many workers were started since this one. */
+/** Returns a function: how many workers were started since. */
 export function countWorkers() {
     const before = started;
     return () => started - before;
 }
 
-/** What a process of Node says that has some arguments, and more variables. */
+/** The output of a Node process with these arguments and variables. */
 export async function outputOf(words, variables = {}) {
     const how = { cwd: import.meta.dirname, timeout: 600000, env: { ...process.env, ...variables } };
     return (await promisify(execFile)(process.execPath, words, how)).stdout;

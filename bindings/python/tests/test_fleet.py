@@ -46,7 +46,7 @@ class Fleet:
 
 @pytest.fixture
 def fleet():
-    """A user of it logs in often, and another one seldom."""
+    """One of its users logs in often, another seldom."""
     made = Fleet(STEPS[0])
     made.sign_up("often", 0)
     made.sign_up("seldom", 0)
@@ -75,7 +75,7 @@ def test_another_order_locks_a_user_out(fleet, steps, error):
         fleet.roll_out(steps)
 
 
-def test_rolled_back_in_reverse_nobody_is_locked_out(fleet):
+def test_rolling_back_in_reverse_order_locks_nobody_out(fleet):
     fleet.roll_out(STEPS[1:])
     fleet.log_in("seldom", 0)
     fleet.roll_out([(LARGE, WIDE, BOTH), (SMALL, WIDE, BOTH)])
@@ -85,8 +85,8 @@ def test_rolled_back_in_reverse_nobody_is_locked_out(fleet):
 
 @pytest.mark.parametrize("last, error", [((SMALL, NARROW, BOTH), TooCostlyError),
                                          ((SMALL, WIDE, OLD), VerificationError)], ids=["limits", "key"])
-def test_limits_and_keys_that_hashes_still_need_lock_out_when_taken_back(fleet, last, error):
-    """Of those alone who have not logged in since."""
+def test_taking_back_limits_or_keys_that_hashes_still_need_locks_users_out(fleet, last, error):
+    """Only users who did not log in since."""
     fleet.roll_out(STEPS[1:])
     fleet.log_in("seldom", 0)
     fleet.roll_out([(LARGE, WIDE, BOTH), (SMALL, WIDE, BOTH), last])

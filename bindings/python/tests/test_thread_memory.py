@@ -24,8 +24,8 @@ from proved_argon2 import AsyncPasswordHasher, PasswordHasher, _memory
 hasher = PasswordHasher(time_cost=2, memory_cost=8192, parallelism=1)
 inputs = {"password": "password", "salt": b"saltsaltsaltsalt"}
 """
-# Prints pieces of the blocks of a hash in its last slice. Their bits are inverted, so that who reads them does not have
-# them in memory.
+# Prints pieces of the blocks of a hash in its last slice. Their bits are inverted, so that the reading process does not
+# contain them.
 PIECES = CALL + """
 import ctypes
 memory = _memory.current_thread.memory = _memory.ThreadMemory()

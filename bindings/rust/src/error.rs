@@ -140,8 +140,7 @@ mod tests {
     use crate::ffi::{message, TOO_COSTLY};
     use crate::Unverified;
 
-    /// The numbers that only a call with other results than an error returns, or only a call that this crate does not
-    /// make.
+    /// Numbers that this crate's calls never return, or return as something other than an error.
     const OF_OTHER_CALLS: [u32; 10] = [64, 65, NOT_ASCII, 68, 69, 70, 71, 72, 128, 132];
 
     #[test]

@@ -108,8 +108,8 @@ impl Line {
         Line::keeping(places, waiting, IDLE)
     }
 
-    /// A line with as many places as there are processors, divided by the lanes of these settings, and as their hashes
-    /// fit into this many bytes of memory; and in which 16 times as many callers may wait.
+    /// A line with as many places as hashes of these settings fit into the processors (one per lane) and into this many
+    /// bytes of memory. 16 times as many callers may wait.
     #[must_use]
     pub fn of(config: &Config<'_>, memory: usize) -> Line {
         let processors = thread::available_parallelism().map_or(1, usize::from);

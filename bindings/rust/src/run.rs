@@ -55,7 +55,7 @@ impl<'a> Run<'a> {
         Run { memory: Some(memory), is_memory_optional: true, ..self }
     }
 
-    /// The same calls, with a progress callback. A call makes it in the caller's thread each time a slice is filled,
+    /// The same calls, with a progress callback. A call invokes it in the caller's thread each time a slice is filled,
     /// four times in a pass, with the number of slices that are filled and of all slices.
     ///
     /// If the callback returns [`ControlFlow::Break`], the call clears its memory and returns [`Error::Stopped`]. If it

@@ -77,7 +77,7 @@ class Options(ctypes.Structure):
 
 
 class Refused(Exception):
-    """The library returned the number of an error. A string with a byte above 127 is no encoded hash, as any other."""
+    """The library returned the number of an error. A byte above 127 makes a string an invalid encoded hash."""
 
     def __init__(self, number: int) -> None:
         number = DECODING_FAIL if number == NOT_ASCII else number

@@ -160,7 +160,7 @@ class Pool:
     def forget(self, future: "Future[Any]") -> None:
         """Free the place of a call that has ended or is cancelled."""
         with self._lock:
-            job = self._jobs.pop(future, None)  # In a forked child it may be one of the parent's, which is not there.
+            job = self._jobs.pop(future, None)  # A forked child has no job for the parent's futures.
             if job is not None and job in self._waiting:
                 self._waiting.remove(job)
 
