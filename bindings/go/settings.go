@@ -40,6 +40,7 @@ type Settings struct {
 // lanes for its two: set Lanes.
 
 // presets, by .ci/pages/presets
+
 // OWASP1 is OWASP's first recommendation: 46 MiB, 1 pass.
 func OWASP1() Settings { return preset(47104, 1) }
 

@@ -408,18 +408,21 @@ def package(tmp_path_factory):
 
 @pytest.mark.parametrize("way", ["replace", "proxy"])
 def test_a_program_is_built_with_the_package(package, env, tmp_path, way):
-    """It is unpacked in place of the module, or it is in a folder that serves modules."""
-    run("unzip", "-q", package, "-d", tmp_path)
-    folder = program(tmp_path / "program", tmp_path / f"{NAME}@v{VERSION}")
+    """It is unpacked and named by the lines of the page, or it is in a folder that serves modules."""
+    run("unzip", "-q", package, "-d", tmp_path / "modules")
+    folder = tmp_path / "program"
+    folder.mkdir()
     (folder / "main.go").write_text(MAIN)
+    lines = re.search(r"^    \./package go .*\n((?:    .*\n)+)", PAGE, re.M)[1]
+    run("sh", "-ec", f"go mod init program\n{lines}", cwd=folder, env={**env, "HOME": tmp_path})
     if way == "proxy":
         served = tmp_path / "served" / NAME / "@v"
         served.mkdir(parents=True)
         shutil.copy(package, served / f"v{VERSION}.zip")
-        shutil.copy(tmp_path / f"{NAME}@v{VERSION}/go.mod", served / f"v{VERSION}.mod")
+        shutil.copy(tmp_path / f"modules/{NAME}@v{VERSION}/go.mod", served / f"v{VERSION}.mod")
         (served / f"v{VERSION}.info").write_text(f'{{"Version": "v{VERSION}"}}')
         text = (folder / "go.mod").read_text()
-        (folder / "go.mod").write_text(text.partition("\nreplace")[0])
+        (folder / "go.mod").write_text(text.partition("\nreplace")[0] + "\n")
         env = {**env, "GOPROXY": f"file://{tmp_path}/served", "GOPATH": tmp_path / "path",
                "GOFLAGS": "-modcacherw -mod=mod"}
     assert run("go", "run", ".", cwd=folder, env=env) == TAG

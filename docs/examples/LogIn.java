@@ -24,7 +24,10 @@ final class LogIn {
      */
     record Result(Answer answer, String stored) {}
 
-    /** Logs in a user. If there is no such user, {@code stored} is null. Interrupt the thread if the client leaves. */
+    /**
+     * Logs in a user. If there is no such user, {@code stored} is null. If your server sees that the client left (that of
+     * {@code com.sun.net.httpserver} cannot), interrupt the thread.
+     */
     Result logIn(String user, String stored, char[] password) {
         if (password.length > LONGEST) {
             return log("too long a password", user, new Result(Answer.REJECTED, stored));
@@ -38,6 +41,9 @@ final class LogIn {
             }
             return log("logged in", user, new Result(Answer.ACCEPTED, verdict.update().orElse(stored)));
         } catch (Argon2Exception error) {
+            if (error.number() == Argon2Exception.NOT_UNICODE) {
+                return log("no text as password", user, new Result(Answer.REJECTED, stored));
+            }
             return log("error: " + error.getMessage(), user, new Result(Answer.TRY_LATER, stored));
         }
     }

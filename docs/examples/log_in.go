@@ -24,7 +24,12 @@ type users interface {
 func logIn(peppers *argon2.Peppers, users users) http.HandlerFunc {
 	return func(w http.ResponseWriter, r *http.Request) {
 		r.Body = http.MaxBytesReader(w, r.Body, 3*longest+1024) // a byte of a form may be written as three
-		name, password := r.PostFormValue("user"), []byte(r.PostFormValue("password"))
+		if r.Method != http.MethodPost || r.ParseForm() != nil {
+			log.Print("no form, or too long a form")
+			w.WriteHeader(http.StatusBadRequest)
+			return
+		}
+		name, password := r.PostForm.Get("user"), []byte(r.PostForm.Get("password"))
 		if len(password) > longest {
 			log.Printf("too long a password: %q", name)
 			w.WriteHeader(http.StatusUnauthorized)

@@ -131,6 +131,7 @@ final class Service {
         Thread.sleep(500);
         runAll(66, client -> require(send(port, "known", "password", false) == 200, "a login of a burst was rejected"));
         require(answerTo("x\nlogged in: root", 1024) == LogIn.Answer.REJECTED, "");
+        require(LOG_IN.logIn("x", OLDER, new char[] {'\ud800'}).answer() == LogIn.Answer.REJECTED, "half of a pair");
         String stored = LOG_IN.logIn("x\nlogged in: root", OLDER, "password".toCharArray()).stored();
         require(stored.contains("m=19456") && answerTo("x", 1025) == LogIn.Answer.REJECTED, stored);
         String most = Files.readAllLines(Path.of("/proc/self/status")).stream().filter(line -> line.startsWith("VmHWM"))

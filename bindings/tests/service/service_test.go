@@ -12,6 +12,7 @@ import (
 	"strconv"
 	"strings"
 	"sync"
+	"syscall"
 	"testing"
 	"time"
 
@@ -46,6 +47,13 @@ func peakKiB() int {
 	return number
 }
 
+// processorTime returns how long this process has computed, which does not depend on what else the machine does.
+func processorTime() time.Duration {
+	var usage syscall.Rusage
+	syscall.Getrusage(syscall.RUSAGE_SELF, &usage)
+	return time.Duration(usage.Utime.Nano() + usage.Stime.Nano())
+}
+
 func TestService(t *testing.T) {
 	var lines strings.Builder
 	log.SetOutput(&lines)
@@ -55,7 +63,7 @@ func TestService(t *testing.T) {
 	if err != nil {
 		t.Fatal(err)
 	}
-	older.Memory, older.Time = 262144, 10 // long beside what a loaded machine takes to schedule a thread
+	older.Memory, older.Time = 65536, 10
 	costly, err := argon2.Hash([]byte("password"), older)
 	if err != nil {
 		t.Fatal(err)
@@ -90,17 +98,24 @@ func TestService(t *testing.T) {
 		{"x\nlogged in", "password", 204}, {"x\nlogged in", "Password", 401}, {"nobody", "password", 401},
 		{"unreadable", "password", 503}, {"unpeppered", "password", 503},
 		{"x\nlogged in", strings.Repeat("a", longest+1), 401}, {"nobody", strings.Repeat("\xff", longest), 401},
-		{"", "", 401},
+		{"", "", 401}, {"nobody", strings.Repeat("a", 5000), 400},
 	}
 	for _, c := range cases {
 		if status := post(context.Background(), c.user, c.password); status != c.status {
 			t.Errorf("%.20q %.20q: %d", c.user, c.password, status)
 		}
 	}
-	begun := time.Now()
+	for method, form := range map[string]string{"POST": "user=nobody&password=%zz", "GET": "user=nobody"} {
+		request, _ := http.NewRequest(method, server.URL+"?"+form, strings.NewReader(form))
+		request.Header.Set("Content-Type", "application/x-www-form-urlencoded")
+		if response, err := client.Do(request); err != nil || response.StatusCode != 400 {
+			t.Error(method, response, err)
+		}
+	}
+	begun, used := time.Now(), processorTime()
 	post(context.Background(), "costly", "Password")
-	whole := time.Since(begun)
-	begun = time.Now()
+	whole, cost := time.Since(begun), processorTime()-used
+	used = processorTime()
 	var group sync.WaitGroup
 	for i := 0; i < 2; i++ { // both places are taken by clients that leave
 		group.Add(1)
@@ -112,8 +127,8 @@ func TestService(t *testing.T) {
 		}()
 	}
 	group.Wait()
-	if status := post(context.Background(), "nobody", ""); status != 401 || time.Since(begun) > whole*2/3 {
-		t.Error("hashes of clients that left went on", status, time.Since(begun), whole)
+	if status := post(context.Background(), "nobody", ""); status != 401 || processorTime()-used > cost {
+		t.Error("hashes of clients that left went on", status, processorTime()-used, cost)
 	}
 	before, end := peakKiB(), time.Now().Add(3*time.Second)
 	var counts [600]int
