@@ -4,7 +4,7 @@
  * The library computes Argon2d, Argon2i and Argon2id, versions 0x10 and 0x13, with a secret and associated data. The
  * calls here use one thread, whatever the number of lanes. The calls of proved_argon2_threads.h can use several threads
  * or a reusable buffer, and can be stopped. The calls that hash or verify are C code around proved calls
- * (proved_argon2_jobs.h). The calls that read, check, compare or write an encoded hash are proved themselves. No proved
+ * (proved_argon2_jobs.h). The calls that only read, check or compare an encoded hash are proved themselves. No proved
  * call allocates memory or starts a thread. This header includes all others.
  *
  * Passing bytes. Pass bytes as a pointer and then a length. A password may be text or bytes, so its pointer is const
@@ -15,24 +15,24 @@
  * Errors. A call that can fail returns PROVED_ARGON2_OK (0) or the number of one error. After an error its outputs are
  * unchanged, byte for byte, but a reusable buffer may have been cleared. A mismatch is not an error. Only the first
  * error is reported, in this order: wrong options, an unknown variant, an unknown version, the encoded hash, its
- * limits, settings in the order of the constants below, the length of the buffer, and finally memory. A call that makes
+ * limits, settings in the order of the MIN and MAX constants below, the buffer's length, and memory. A call that makes
  * a salt does so before it checks any of these. No call prints, ends the process or changes errno. A call waits only
- * for its own threads and, if it makes a salt, for the system's random bytes. It reads only its arguments. The first
- * call of a process also finds out which of the library's builds the processor can run, and reads the environment
- * variable PROVED_ARGON2_CPU, with which tests choose a build. If none can run, each call that can fail returns
- * PROVED_ARGON2_OLD_PROCESSOR before it reads variant, version or encoded hash, and numbers that others return are
- * zero.
+ * for its own threads or your pool and, if it makes a salt, for the system's random bytes. It reads only its arguments.
+ * The first call of a process also finds out which of the library's builds the processor can run, and reads the
+ * environment variable PROVED_ARGON2_CPU, with which tests choose a build. If none can run, each call that can fail
+ * returns PROVED_ARGON2_OLD_PROCESSOR before it reads variant, version or encoded hash, and numbers that others return
+ * are zero.
  *
  * Memory. A call that hashes or verifies allocates at most the settings' mem_cost KiB for its blocks, and memory for
  * the tag, and for the hash and the salt of an encoded hash. If the blocks need 2 MiB or more, they use huge pages if
- * the system has some, and small pages after the last whole one. All memory is freed before the call returns. It is
+ * the system has some, and small pages for the rest. All memory is freed before the call returns. It is
  * overwritten first, or returned to the system, which clears it. Such a call also overwrites the stack below it and, if
  * compiled by GCC 11, clang 15 or newer, the vector registers.
  *
  * Threads. Calls are thread-safe, as long as nothing writes to what a call is passed: an encoded hash that changes
- * while it is read may end the process. The only state of the library is which build it runs. A thread is not cancelled
- * during a call, unless its cancellation is asynchronous: then just before the call returns, and the proved calls of
- * proved_argon2_jobs.h anywhere. Calls are not async-signal-safe, so make none from a signal handler. In the forked
+ * while it is read may end the process. The only state of the library is which build it runs. A thread is cancelled
+ * during a call only if its cancellation is asynchronous: just before the call returns or, in the proved calls of
+ * proved_argon2_jobs.h, anywhere. Calls are not async-signal-safe, so make none from a signal handler. In the forked
  * child of a process with threads, calls are safe if malloc is, as with the GNU C library.
  *
  * Symbols. Each symbol of the library begins with proved_, so that a program can link libargon2 too.
@@ -112,7 +112,7 @@ enum proved_argon2_code {
     PROVED_ARGON2_OUT_OF_MEMORY = 20,     /* memory could not be allocated, or the buffer of the options is too small */
     PROVED_ARGON2_WORKER_REFUSED = 21,    /* the thread pool of the options did not run its tasks */
     PROVED_ARGON2_MISMATCH = 64,          /* the password does not match */
-    PROVED_ARGON2_WRONG_LENGTH = 65,      /* a buffer has the wrong length, or the size of the options is 0 */
+    PROVED_ARGON2_WRONG_LENGTH = 65,      /* a buffer has the wrong length, or the options have an unknown size */
     PROVED_ARGON2_NOT_ASCII = 66,         /* the string has a byte above 127 */
     PROVED_ARGON2_UNKNOWN_NUMBER = 67,    /* never returned; its message is that of a number that no error has */
     PROVED_ARGON2_NEEDS_REHASH = 68,      /* the encoded hash was made with other settings */
@@ -250,7 +250,7 @@ proved_argon2_limits proved_argon2_default_limits(void);
 /*
  * proved_argon2_verify_encoded within limits. It returns PROVED_ARGON2_TOO_COSTLY only if the encoded hash names more
  * memory, passes or lanes than the limits allow, or more memory times passes. Then it allocates no memory and compares
- * nothing. First it returns the errors above for a string that is not an encoded hash.
+ * nothing. The errors above, for a string that is not an encoded hash, come first.
  */
 PROVED_ARGON2_CHECKED
 uint32_t proved_argon2_verify_encoded_within(
@@ -283,7 +283,7 @@ uint32_t proved_argon2_read_bytes(
 /*
  * Whether an encoded hash was made with these settings: PROVED_ARGON2_OK only if its variant, version, memory cost,
  * passes, lanes and length of the hash are the given ones, and PROVED_ARGON2_NEEDS_REHASH only if one differs. The
- * numbers of variant and version are checked first, and then the string, as above. Other settings may be invalid. Call
+ * numbers of variant and version are checked first, and then the string, as above. Other fields may be invalid. Call
  * it after the password has matched.
  */
 PROVED_ARGON2_CHECKED

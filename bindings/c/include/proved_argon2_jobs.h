@@ -97,8 +97,8 @@ uint32_t proved_argon2_job_begin(
     const proved_argon2_job *job, uint32_t lane, proved_argon2_block *own, size_t own_len);
 
 /*
- * Fills a lane's segment of a slice in a pass. own is that segment. first, second and third are the other three slices,
- * in rising order and complete: each has lanes * segment_length blocks.
+ * Fills a lane's segment of a slice in a pass. own is that segment. first, second and third are the other three slices
+ * in rising order, each of lanes * segment_length blocks.
  */
 PROVED_ARGON2_CHECKED
 uint32_t proved_argon2_job_fill(

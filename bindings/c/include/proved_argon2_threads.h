@@ -29,8 +29,8 @@ extern "C" {
 typedef int proved_argon2_run(void *pool, uint32_t tasks, void (*task)(void *arg, uint32_t i), void *arg);
 
 /*
- * The progress callback. It is called in the caller's thread after each slice, when done of all slices are filled; done
- * starts at 1. If it returns anything but 0, the call stops and returns PROVED_ARGON2_STOPPED. It must return, and not
+ * The progress callback. The calling thread calls it after each slice with the counts of filled slices (done, from 1)
+ * and of all. If it returns anything but 0, the call stops and returns PROVED_ARGON2_STOPPED. It must return, and not
  * leave by longjmp or an exception.
  */
 typedef int proved_argon2_progress(void *arg, uint64_t done, uint64_t all);
@@ -47,11 +47,11 @@ typedef struct proved_argon2_options {
      * size, 0 or a smaller one included, it returns PROVED_ARGON2_WRONG_LENGTH. */
     size_t size;
     /* the maximum number of threads, or of tasks of run. It is limited to the number of lanes and, if the call verifies
-     * an encoded hash, to PROVED_ARGON2_MAX_VERIFYING_THREADS. 0 means 1. Unless run is set, the calling thread counts
-     * as one of them, and a small hash uses only that thread. */
+     * an encoded hash or an unknown user, to PROVED_ARGON2_MAX_VERIFYING_THREADS. 0 means 1. Unless run is set, the
+     * calling thread counts as one of them, and a small hash uses only that thread. */
     uint32_t threads;
     /* a buffer for the blocks, or null: then the call allocates memory. Its address must be a multiple of 8 (otherwise
-     * the call returns PROVED_ARGON2_MISALIGNED), and should be one of 64. The call clears it before it returns. */
+     * the call returns PROVED_ARGON2_MISALIGNED), preferably of 64. The call clears what it used before it returns. */
     void *memory;
     /* the length of the buffer in bytes. If the settings need more, the call returns PROVED_ARGON2_OUT_OF_MEMORY. */
     size_t memory_len;
@@ -135,9 +135,8 @@ uint32_t proved_argon2_job_run_verify(
 /*
  * proved_argon2_password_hash and proved_argon2_password_verify with settings, a pepper and options. The pepper is one
  * secret for all hashes, contained in none; pass null and 0 for none. If the options have no limits, no encoded hash is
- * too costly: the default limits do not apply. UINT32_MAX threads mean one per lane, and at most
- * PROVED_ARGON2_MAX_VERIFYING_THREADS in a call that verifies. text has PROVED_ARGON2_TEXT_SIZE bytes; for settings
- * whose encoded hash does not fit, the call returns PROVED_ARGON2_WRONG_LENGTH.
+ * too costly: the default limits do not apply. text has PROVED_ARGON2_TEXT_SIZE bytes; for settings whose encoded hash
+ * does not fit, the call returns PROVED_ARGON2_WRONG_LENGTH.
  */
 PROVED_ARGON2_CHECKED
 uint32_t proved_argon2_password_hash_with(
@@ -168,7 +167,7 @@ uint32_t proved_argon2_password_verify_unknown(
 PROVED_ARGON2_CHECKED
 uint32_t proved_argon2_memory_new(const proved_argon2_settings *settings, void **memory, size_t *memory_len);
 
-/* Clears and frees a buffer of proved_argon2_memory_new. A null pointer does nothing. */
+/* Clears and frees a buffer of proved_argon2_memory_new. For null it does nothing. */
 void proved_argon2_memory_free(void *memory, size_t memory_len);
 
 /* clang-format on */
