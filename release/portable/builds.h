@@ -1,5 +1,5 @@
-/* The archive contains several builds of the proved calls, each for other processors. proved_argon2_builds.c chooses
- * one, and the calls of proved_argon2_table.c jump to it. It is tested, not proved. */
+/* The archive contains several builds of the proved calls, each for different processors. proved_argon2_builds.c
+ * chooses one, and the calls of proved_argon2_table.c jump to it. This is tested, not proved. */
 #ifndef BUILDS_H
 #define BUILDS_H
 
@@ -27,8 +27,8 @@
 
 #else
 
-/* The builds, the newest last: the number of each, and the part of its calls' names. Those for x86-64 keep Linux's
- * calling convention, which compilers for Windows know too. */
+/* The builds, newest last: the number of each, and its part of calls' names. Those for x86-64 keep Linux's calling
+ * convention, which compilers for Windows know too. */
 /* clang-format off */
 #ifdef __aarch64__
 #define BY_LINUX

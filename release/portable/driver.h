@@ -33,7 +33,7 @@ typedef struct worker {
     uint32_t code;
 } worker;
 
-/* The state of a call. Its end overwrites all of it. */
+/* The state of a call, which overwrites it at its end. */
 struct call {
     options with;
     proved_argon2_job job;
@@ -62,16 +62,16 @@ static inline uint64_t bytes_of(const proved_argon2_job *job)
 /* Begins a call with options. A missing pointer is the first error, and wrong options are the second. */
 uint32_t proved_driver_begin_call(struct call *call, const options *with, int is_missing);
 
-/* Allocates so many bytes, all zero, which the end of the call clears and frees. */
+/* Allocates len zeroed bytes. The end of the call clears and frees them. */
 uint32_t proved_driver_take_bytes(struct call *call, uint64_t len);
 
-/* Computes the tag of a job that was checked. With a hash, it also returns whether that is the tag. */
+/* Computes the tag of a job that was checked. If hash is not null, returns whether it matches. */
 uint32_t proved_driver_compute(struct call *call, const uint8_t *hash, uint8_t *tag);
 
 /* Ends a call with its result: clears its bytes, its job, the stack and the registers. */
 CLEARS_REGISTERS uint32_t proved_driver_end_call(struct call *call, uint32_t code);
 
-/* Memory for blocks that a caller keeps, all zero, or null; proved_argon2_memory_free frees it. */
+/* Returns zeroed memory for blocks that a caller keeps, or null; proved_argon2_memory_free frees it. */
 void *proved_driver_take_buffer(uint64_t bytes);
 
 #pragma GCC visibility pop

@@ -1,4 +1,4 @@
-/* What the driver needs of the system. platform_posix.c implements it by POSIX, and by what Linux adds. It is tested,
+/* What the driver needs from the system. platform_posix.c implements it with POSIX and what Linux adds. It is tested,
  * not proved. */
 #ifndef PLATFORM_H
 #define PLATFORM_H
@@ -22,7 +22,7 @@ typedef struct caller {
 /* The threads of a call. The thread that started them has the number 0. A null pointer is a team without threads. */
 typedef struct team team;
 
-/* (The names are long, since in an archive they stand beside the names of a program.) */
+/* (The names are long, since a program that links the archive sees them.) */
 #pragma GCC visibility push(hidden)
 
 /* Saves what a call changes, and disables cancellation of the thread. The second call restores both. */
@@ -34,7 +34,7 @@ void *proved_driver_take_lines(size_t bytes);
 void proved_driver_free_lines(void *lines);
 
 /* Maps 2 MiB or more at a multiple of 2 MiB, or returns null. The memory is zero and in no core dump. It uses huge
- * pages where the system has them, except for what remains behind the last whole one. */
+ * pages where the system has them, except after the last whole one. */
 void *proved_driver_map_pages(size_t bytes);
 
 /* Returns pages to the system, which clears them. */
@@ -43,13 +43,13 @@ void proved_driver_unmap_pages(void *pages, size_t bytes);
 /* Allocates some of these pages at once, where the system can. Returns false if it denies them. */
 bool proved_driver_populate_pages(void *pages, size_t bytes);
 
-/* Reads random bytes of the system. Returns whether there were enough. */
+/* Reads random bytes from the system. Returns whether there were enough. */
 bool proved_driver_take_random(uint8_t *bytes, size_t len);
 
-/* Overwrites bytes with zeros, which the compiler may not leave out. */
+/* Overwrites bytes with zeros. The compiler cannot remove this. */
 void proved_driver_overwrite(void *bytes, size_t len);
 
-/* Starts some threads, or fewer if the system denies one. Thread i, from 1 on, calls run(arg, own, i) once. */
+/* Starts this many threads, or fewer if one is denied. Thread i, from 1 on, calls run(arg, own, i) once. */
 team *proved_driver_start_team(uint32_t threads, void (*run)(void *arg, team *own, uint32_t number), void *arg);
 
 /* The number of threads that were started. In a child that was forked meanwhile it is 0. */

@@ -1,5 +1,5 @@
 #if defined(__linux__)
-/* The driver's system by POSIX, and by what Linux adds. It is tested, not proved. */
+/* Implements platform.h with POSIX and what Linux adds. It is tested, not proved. */
 #define _GNU_SOURCE
 #include "platform.h"
 
@@ -137,7 +137,7 @@ static bool has_room_for_variables(size_t stack)
 
 /* How many bytes of a stack the thread-local variables may take. We find out by trying, since dl_iterate_phdr, which
  * lists the variables, waits for a lock that a forked child may find taken for ever. Under valgrind every try returns
- * EINVAL, as mmap does there for such a guard: this says nothing about the variables, and the usual stack has to do. */
+ * EINVAL, as mmap does there for such a guard: this says nothing about the variables, so we use the usual stack. */
 static size_t room_for_variables(void)
 {
     for (size_t room = STACK; room < MOST_VARIABLES; room *= 2) {
@@ -213,7 +213,7 @@ void proved_driver_wake(team *own, uint32_t number)
 void proved_driver_await(team *own, uint32_t number)
 {
     while (is_here(own) && sem_wait(&own->members[number].woken) != 0) {
-        /* (The handler of a signal ran, which ends a wait.) */
+        /* (A signal handler ran, which ends the wait.) */
     }
 }
 

@@ -1,5 +1,5 @@
 #if defined(_WIN32)
-/* The driver's system: Windows. It is tested by wine alone, and not proved. */
+/* Implements platform.h for Windows. It is tested only under wine, not proved. */
 #define WIN32_LEAN_AND_MEAN
 #define _WIN32_WINNT 0x0600 /* Windows Vista: condition variables */
 #include "platform.h"

@@ -4,7 +4,7 @@
  * The library computes Argon2d, Argon2i and Argon2id, versions 0x10 and 0x13, with a secret and associated data. The
  * calls here use one thread, whatever the number of lanes. The calls of proved_argon2_threads.h can use several threads
  * or a reusable buffer, and can be stopped. The calls that hash or verify are C code around proved calls
- * (proved_argon2_jobs.h). The calls that read, check, compare or write an encoded hash are proved themselves. No proved
+ * (proved_argon2_jobs.h). The calls that only read, check or compare an encoded hash are proved themselves. No proved
  * call allocates memory or starts a thread. This header includes all others.
  *
  * Passing bytes. Pass bytes as a pointer and then a length. A password may be text or bytes, so its pointer is const
@@ -14,23 +14,26 @@
  *
  * Errors. A call that can fail returns PROVED_ARGON2_OK (0) or the number of one error. After an error its outputs are
  * unchanged, byte for byte, but a reusable buffer may have been cleared. A mismatch is not an error. Only the first
- * error is reported, in this order: the number of the variant, the number of the version, the settings in the order of
- * the limits below, the length of the buffer, and at last memory. No call prints, ends the process or changes errno. A
- * call waits only for its own threads and, if it makes a salt, for the system's random bytes. It reads only its
- * arguments. The first call of a process also finds out which of the library's builds the processor can run, and reads
- * the environment variable PROVED_ARGON2_CPU, with which tests choose a build. If the processor can run none, each call
- * that can fail returns PROVED_ARGON2_OLD_PROCESSOR, after null pointers, and every other call returns zeros.
+ * error is reported, in this order: wrong options, an unknown variant, an unknown version, the encoded hash, its
+ * limits, settings in the order of the MIN and MAX constants below, the buffer's length, and memory. A call that makes
+ * a salt does so before it checks any of these. No call prints, ends the process or changes errno. A call waits only
+ * for its own threads or your pool and, if it makes a salt, for the system's random bytes. It reads only its arguments.
+ * The first call of a process also finds out which of the library's builds the processor can run, and reads the
+ * environment variable PROVED_ARGON2_CPU, with which tests choose a build. If none can run, each call that can fail
+ * returns PROVED_ARGON2_OLD_PROCESSOR before it reads variant, version or encoded hash, and numbers that others return
+ * are zero.
  *
  * Memory. A call that hashes or verifies allocates at most the settings' mem_cost KiB for its blocks, and memory for
- * the tag, and for the hash and the salt of an encoded hash. If the blocks have 2 MiB or more, each whole 2 MiB are a
- * huge page if the system has some, and the rest are small pages. All memory is freed before the call returns. It is
+ * the tag, and for the hash and the salt of an encoded hash. If the blocks need 2 MiB or more, they use huge pages if
+ * the system has some, and small pages for the rest. All memory is freed before the call returns. It is
  * overwritten first, or returned to the system, which clears it. Such a call also overwrites the stack below it and, if
  * compiled by GCC 11, clang 15 or newer, the vector registers.
  *
  * Threads. Calls are thread-safe, as long as nothing writes to what a call is passed: an encoded hash that changes
- * while it is read may end the process. The only state of the library is which build it runs. A thread is not cancelled
- * during a call. Calls are not async-signal-safe, so make none from a signal handler. In the forked child of a process
- * with threads, calls may be made wherever malloc may be called, as with the GNU C library.
+ * while it is read may end the process. The only state of the library is which build it runs. A thread is cancelled
+ * during a call only if its cancellation is asynchronous: just before the call returns or, in the proved calls of
+ * proved_argon2_jobs.h, anywhere. Calls are not async-signal-safe, so make none from a signal handler. In the forked
+ * child of a process with threads, calls are safe if malloc is, as with the GNU C library.
  *
  * Symbols. Each symbol of the library begins with proved_, so that a program can link libargon2 too.
  */
@@ -50,14 +53,14 @@ extern "C" {
 #define PROVED_ARGON2_CHECKED
 #endif
 
-/* The version of the library; as a number, three digits each are for the minor one and the patch. */
+/* The version of the library; as a number, 1000000 * major + 1000 * minor + patch. */
 #define PROVED_ARGON2_LIBRARY_VERSION "1.0.0"
 #define PROVED_ARGON2_LIBRARY_VERSION_NUMBER UINT32_C(1000000)
 
-/* The stack that a call needs, in bytes. This is more than three times what was measured. */
+/* The stack to provide for a call, in bytes: more than three times what was measured. */
 #define PROVED_ARGON2_STACK_SIZE 65536
 
-/* Limits (RFC 9106, 3.1). Lengths are in bytes, memory is in KiB. */
+/* Limits (RFC 9106, 3.1; libargon2's MIN_SALT_LENGTH). Lengths in bytes, memory in KiB. */
 #define PROVED_ARGON2_MIN_LANES UINT32_C(1)
 #define PROVED_ARGON2_MAX_LANES UINT32_C(0xFFFFFF)
 #define PROVED_ARGON2_MIN_MEMORY_PER_LANE UINT32_C(8)
@@ -109,7 +112,7 @@ enum proved_argon2_code {
     PROVED_ARGON2_OUT_OF_MEMORY = 20,     /* memory could not be allocated, or the buffer of the options is too small */
     PROVED_ARGON2_WORKER_REFUSED = 21,    /* the thread pool of the options did not run its tasks */
     PROVED_ARGON2_MISMATCH = 64,          /* the password does not match */
-    PROVED_ARGON2_WRONG_LENGTH = 65,      /* a buffer has the wrong length, or the size of the options is 0 */
+    PROVED_ARGON2_WRONG_LENGTH = 65,      /* a buffer has the wrong length, or the options have an unknown size */
     PROVED_ARGON2_NOT_ASCII = 66,         /* the string has a byte above 127 */
     PROVED_ARGON2_UNKNOWN_NUMBER = 67,    /* never returned; its message is that of a number that no error has */
     PROVED_ARGON2_NEEDS_REHASH = 68,      /* the encoded hash was made with other settings */
@@ -158,8 +161,8 @@ typedef struct proved_argon2_stored {
 /* clang-format off */
 /*
  * The recommended settings: Argon2id, version 0x13, one lane and a tag of 32 bytes. OWASP's Password Storage Cheat
- * Sheet calls its five equal in strength; begin with proved_argon2_owasp2. RFC 9106, section 4, recommends its memory
- * and passes with four lanes: set lanes to 4 for those two.
+ * Sheet calls its five equal in strength; begin with proved_argon2_owasp2. RFC 9106, section 4, recommends its two
+ * settings with four lanes: set lanes to 4 for these.
  */
 /* presets, by .ci/pages/presets */
 proved_argon2_settings proved_argon2_owasp1(void); /* 46 MiB, 1 pass */
@@ -239,15 +242,15 @@ uint32_t proved_argon2_verify_encoded(
     const uint8_t *ad, size_t ad_len);
 
 /*
- * 2 GiB, 10 passes, 16 lanes, and the work of 4 GiB in one pass: the settings of RFC 9106, section 4, OWASP, libsodium
- * and Django are within.
+ * 2 GiB, 10 passes, 16 lanes, and the work of 4 GiB in one pass. These allow the settings of RFC 9106, section 4,
+ * OWASP, libsodium and Django.
  */
 proved_argon2_limits proved_argon2_default_limits(void);
 
 /*
- * The same within limits. It returns PROVED_ARGON2_TOO_COSTLY only if the encoded hash names more memory, passes or
- * lanes than the limits allow, or more memory times passes. Then it allocates no memory and compares nothing. For a
- * string that is not an encoded hash it returns the error above first.
+ * proved_argon2_verify_encoded within limits. It returns PROVED_ARGON2_TOO_COSTLY only if the encoded hash names more
+ * memory, passes or lanes than the limits allow, or more memory times passes. Then it allocates no memory and compares
+ * nothing. The errors above, for a string that is not an encoded hash, come first.
  */
 PROVED_ARGON2_CHECKED
 uint32_t proved_argon2_verify_encoded_within(
@@ -258,13 +261,13 @@ uint32_t proved_argon2_verify_encoded_within(
     const proved_argon2_limits *limits);
 
 /*
- * Decodes an encoded hash to stored, and verifies nothing. Settings that no hash can have are decoded too. For a string
- * that is not an encoded hash it returns the errors above. A length above 2^32 - 1 is reported as 2^32 - 1.
+ * Decodes an encoded hash into stored, and verifies nothing. Settings that no hash can have are decoded too. For a
+ * string that is not an encoded hash it returns the errors above. A length above 2^32 - 1 is reported as 2^32 - 1.
  */
 PROVED_ARGON2_CHECKED
 uint32_t proved_argon2_read(const char *text, size_t text_len, proved_argon2_stored *stored);
 
-/* The same within limits: an encoded hash above them returns PROVED_ARGON2_TOO_COSTLY. */
+/* The same within limits: above them it returns PROVED_ARGON2_TOO_COSTLY. */
 PROVED_ARGON2_CHECKED
 uint32_t proved_argon2_read_within(
     const char *text, size_t text_len, const proved_argon2_limits *limits, proved_argon2_stored *stored);
@@ -280,8 +283,8 @@ uint32_t proved_argon2_read_bytes(
 /*
  * Whether an encoded hash was made with these settings: PROVED_ARGON2_OK only if its variant, version, memory cost,
  * passes, lanes and length of the hash are the given ones, and PROVED_ARGON2_NEEDS_REHASH only if one differs. The
- * numbers of variant and version are checked first, and then the string, as above. No other setting is checked. Call it
- * after the password has matched.
+ * numbers of variant and version are checked first, and then the string, as above. Other fields may be invalid. Call
+ * it after the password has matched.
  */
 PROVED_ARGON2_CHECKED
 uint32_t proved_argon2_needs_rehash(
@@ -297,8 +300,8 @@ uint32_t proved_argon2_check(
     const proved_argon2_settings *settings, uint64_t pwd_len, uint64_t salt_len, uint64_t secret_len, uint64_t ad_len);
 
 /*
- * The same for an encoded hash within limits, and a call that verifies it with inputs of these lengths. It returns the
- * errors of proved_argon2_read_within first, and writes the same to stored.
+ * The same for a call that verifies an encoded hash within limits, with inputs of these lengths. It returns the errors
+ * of proved_argon2_read_within first, and writes the same to stored.
  */
 PROVED_ARGON2_CHECKED
 uint32_t proved_argon2_check_encoded(
@@ -312,7 +315,7 @@ uint32_t proved_argon2_check_encoded(
 PROVED_ARGON2_CHECKED
 uint64_t proved_argon2_encoded_len(const proved_argon2_settings *settings, uint32_t salt_len);
 
-/* The message of the error with this number, a constant. If no error has it, that of PROVED_ARGON2_UNKNOWN_NUMBER. */
+/* The constant message of the error with this number or, if there is none, of PROVED_ARGON2_UNKNOWN_NUMBER. */
 const char *proved_argon2_message(uint32_t number);
 
 /* clang-format on */

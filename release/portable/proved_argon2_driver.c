@@ -1,6 +1,6 @@
-/* How the library for C computes: this provides memory and threads for the proved calls of proved_argon2_jobs.h, clears
- * both, and returns what those returned. It is tested, not proved. Its threads have a model, of which much is proved
- * (crates/argon2_c/specs/Team.antt and Threads.antt): "Moves" names what the model calls the steps of a thread here. */
+/* How C's calls compute: this provides memory and threads for the proved calls of proved_argon2_jobs.h, clears what
+ * they leave, and returns their results. It is tested, not proved. Much is proved about a model of its threads
+ * (crates/argon2_c/specs/Team.antt and Threads.antt). "Moves" names the model's steps that the code takes. */
 #include "driver.h"
 #include <stdlib.h>
 #include <string.h>
@@ -12,14 +12,14 @@
 #define SLICES 4                         /* of the blocks, by RFC 9106, section 3.4 */
 #define STACK_BELOW 16384                /* bytes: a call needs two thirds */
 
-/* Whether memory is mapped: to map less than a huge page takes longer than a hash over it. */
+/* Whether memory is mapped. Mapping less than a huge page takes longer than hashing in it. */
 static bool is_mapped(uint64_t bytes)
 {
     return bytes >= HUGE_PAGE;
 }
 
-/* Memory for the blocks of one call, or null. Mapped pages are zero. Smaller memory is the heap's, and not initialized:
- * to overwrite it first would take 2 to 15 % of the call, and the proved calls write each block before they read it. */
+/* Memory for the blocks of one call, or null. Mapped pages are zero. Smaller memory comes from the heap, uninitialized:
+ * overwriting it first would take 2 to 15 % of the call, and the proved calls write each block before they read it. */
 static void *take_blocks(uint64_t bytes)
 {
     const size_t len = (size_t)bytes;
@@ -51,7 +51,7 @@ void proved_argon2_memory_free(void *memory, size_t memory_len)
 }
 
 /* Whether these are the options of this version, or those of a later one whose further fields are all zero, so that the
- * caller wants nothing that is unknown here. Shorter ones are of no version: half a field would be read. */
+ * caller wants nothing that is unknown here. No version has shorter ones: half a field would be read. */
 static bool are_known(const options *with)
 {
     const uint8_t *const bytes = (const uint8_t *)with;
@@ -69,7 +69,7 @@ static bool are_known(const options *with)
 uint32_t proved_driver_begin_call(struct call *call, const options *with, int is_missing)
 {
     *call = (struct call){.saved = proved_driver_keep_caller()};
-    /* (bound here, where no register holds a secret that this could spill) */
+    /* (the loader binds this here, while registers hold no secret to spill) */
     proved_driver_overwrite(&call->job, sizeof call->job);
     if (with == NULL || is_missing) {
         return PROVED_ARGON2_NULL_POINTER;
@@ -88,8 +88,8 @@ uint32_t proved_driver_take_bytes(struct call *call, uint64_t len)
     return call->bytes == NULL ? PROVED_ARGON2_OUT_OF_MEMORY : PROVED_ARGON2_OK;
 }
 
-/* Clears what the loader may have saved on the stack of registers that blocks went through, where it binds a name late:
- * the proved calls clear below themselves. */
+/* When the loader binds a name late, it may save registers that held blocks on the stack. This clears them; the proved
+ * calls clear below themselves. */
 static __attribute__((noinline)) void clear_stack(void)
 {
     unsigned char below[STACK_BELOW];
@@ -109,7 +109,7 @@ uint32_t proved_driver_end_call(struct call *call, uint32_t code)
     return code;
 }
 
-/* Has a worker's part of the pages be there at once. */
+/* Populates a worker's part of the pages at once. */
 static uint32_t populate(const struct call *call, uint32_t number)
 {
     const size_t all = (size_t)bytes_of(&call->job), bytes = call->with.memory == NULL && is_mapped(all) ? all : 0;
@@ -157,8 +157,8 @@ static uint32_t take_step_of_lane(struct call *call, uint64_t step, uint32_t lan
     return fill_segment(call, (uint32_t)((step - 1) / SLICES), (uint32_t)((step - 1) % SLICES), lane);
 }
 
-/* Takes a step for all lanes of a worker, up to the first that fails. It clears the registers, since the thread may
- * call next what the loader has yet to bind, and the loader would save them on the stack. */
+/* Takes a step for all lanes of a worker, up to the first that fails. It clears the registers: the thread may next call
+ * a function that is not yet bound, and the loader would save them on the stack. */
 CLEARS_REGISTERS static void take_step(struct call *call, uint64_t step, uint32_t number)
 {
     uint32_t code = step == 0 ? populate(call, number) : PROVED_ARGON2_OK;
@@ -180,22 +180,21 @@ static void run_task(void *arg, uint32_t number)
     }
 }
 
-/* Whether a worker's part of a step is so short that its thread may well be late for it: others take it then. A long
- * part's thread has come before another thread is through with its own. */
+/* Whether a worker's part of a step is so short that its thread may start too late; then others take it. If parts are
+ * long, each thread starts before another has finished. */
 static bool are_parts_short(const struct call *call)
 {
     return call->slice <= (size_t)SHORT_PART * call->tasks;
 }
 
-/* The worker before one, where the last is before the first. */
+/* The worker before number; the last precedes the first. */
 static uint32_t worker_before(const struct call *call, uint32_t number)
 {
     return (number == 0 ? call->tasks : number) - 1;
 }
 
 /* Takes a step for a worker and then for those before it, until one has been claimed by another thread, which goes on
- * from there. Takes no more than `own` of them, or all where parts are short. Returns how many it took.
- * Moves: Leaves. */
+ * from there. Takes at most `own` of them, or all if parts are short. Returns how many it took. Moves: Leaves. */
 static uint32_t take_parts(struct call *call, uint64_t step, uint32_t number, uint32_t own)
 {
     const uint32_t most = are_parts_short(call) ? call->tasks : own;
@@ -282,7 +281,7 @@ static uint32_t fill(struct call *call)
     return code;
 }
 
-/* In one call, if the caller's thread is alone and there is no progress callback; otherwise in steps. */
+/* Computes in one call if the caller's thread is alone and nothing reports progress; otherwise in steps. */
 static uint32_t compute_over(struct call *call, const uint8_t *hash, uint8_t *tag)
 {
     const block *const last = call->blocks + 3 * call->slice;
@@ -302,8 +301,8 @@ static uint32_t compute_over(struct call *call, const uint8_t *hash, uint8_t *ta
                         : proved_argon2_job_verify(&call->job, last, call->slice, hash, len, tag, len);
 }
 
-/* How many threads a call takes of as many as it may have: over less memory, or in less work, others than its own take
- * longer to start and to wake than they save (docs/DECISIONS.md). A pool is asked for as many tasks as it may be. */
+/* How many threads a call uses of those it may use. With little memory or work, more threads take longer to start and
+ * wake than they save (docs/DECISIONS.md). A pool gets as many tasks as allowed. */
 static uint32_t tasks_of(const struct call *call, uint64_t bytes)
 {
     const uint32_t most = call->with.threads < call->job.lanes ? call->with.threads : call->job.lanes;
@@ -321,7 +320,7 @@ static uint32_t memory_error(const struct call *call, uint64_t bytes)
                                                                                  : PROVED_ARGON2_OK;
 }
 
-/* Over blocks of the call's own, or of the caller's; neither has any left afterwards. */
+/* Computes in the call's own blocks or the caller's, and leaves nothing in either. */
 uint32_t proved_driver_compute(struct call *call, const uint8_t *hash, uint8_t *tag)
 {
     const uint64_t bytes = bytes_of(&call->job);

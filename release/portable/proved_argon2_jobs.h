@@ -11,13 +11,14 @@
  *     for each pass from 0 to job.passes - 1, for each slice from 0 to 3, for each lane: proved_argon2_job_fill
  *     proved_argon2_job_finish or proved_argon2_job_verify
  *
- * Lanes may be begun in any order and at the same time, and the lanes of one slice may be filled so too. Start the next
- * slice after all of them are filled. If each step returned PROVED_ARGON2_OK, proved_argon2_job_finish writes the tag
- * of RFC 9106, and proved_argon2_job_verify returns whether the hash is that tag. The theorems EveryRunGivesTheTag and
- * EveryRunGivesTheVerdict prove this for the blocks that the steps of each slice leave. That steps at the same time
- * leave the same blocks is argued, not proved. Nothing is claimed about the tag after other steps, or over blocks that
- * these steps did not write. proved_argon2_job_hash_over and proved_argon2_job_verify_over do all steps except the
- * first in one call, lane by lane. proved_argon2_hash_over and proved_argon2_verify_over do the first step too.
+ * Lanes may be begun, and the lanes of one slice filled, in any order or at the same time. Begin all lanes before the
+ * first slice, and complete each slice before the next. If each step returned PROVED_ARGON2_OK,
+ * proved_argon2_job_finish writes the tag of RFC 9106, and proved_argon2_job_verify returns whether the hash is that
+ * tag. The theorems EveryRunGivesTheTag and EveryRunGivesTheVerdict prove this for the blocks that the steps of each
+ * slice leave. It is argued, not proved, that concurrent steps leave the same blocks. Nothing is claimed about the tag
+ * after other steps, or over blocks that these steps did not write. proved_argon2_job_hash_over and
+ * proved_argon2_job_verify_over do all steps except the first in one call, lane by lane. proved_argon2_hash_over and
+ * proved_argon2_verify_over do the first step too.
  *
  * Each call checks the numbers and lengths that it is passed, in this order, and returns
  *
@@ -27,13 +28,13 @@
  *     PROVED_ARGON2_WRONG_BLOCKS  if the memory, a slice or a segment has more or fewer blocks
  *     PROVED_ARGON2_WRONG_LENGTH  if a tag has another length
  *
- * After each of these errors the outputs are unchanged. No call can check that the blocks exist, and that no other
- * thread writes to them meanwhile.
+ * Errors of settings and encoded hashes come right after PROVED_ARGON2_MISALIGNED. After each of these errors the
+ * outputs are unchanged. No call can check that the blocks exist, or that no other thread writes to them meanwhile.
  *
  * Each call that computes overwrites the stack below it before it returns and, if compiled by GCC 11, clang 15 or
- * newer, the registers that it may change. The caller has to clear the memory that it provided. The job contains H0,
- * with which a password guess can be tested by a single BLAKE2b; a guess can be tested against the blocks, too.
- * proved_argon2_job_run (proved_argon2_threads.h) provides memory and threads for a job, and clears them.
+ * newer, the registers that it may change. The caller has to clear the memory that it provided. The job contains H0:
+ * whoever reads it can test a password guess with one BLAKE2b. Guesses can be tested against the blocks, too.
+ * proved_argon2_job_run (proved_argon2_threads.h) provides memory and threads for a job, and clears memory.
  */
 #ifndef PROVED_ARGON2_JOBS_H
 #define PROVED_ARGON2_JOBS_H
@@ -96,8 +97,8 @@ uint32_t proved_argon2_job_begin(
     const proved_argon2_job *job, uint32_t lane, proved_argon2_block *own, size_t own_len);
 
 /*
- * Fills a lane's segment of a slice in a pass. own is that segment. first, second and third are the other three slices,
- * in rising order and complete: each has lanes * segment_length blocks.
+ * Fills a lane's segment of a slice in a pass. own is that segment. first, second and third are the other three slices
+ * in rising order, each of lanes * segment_length blocks.
  */
 PROVED_ARGON2_CHECKED
 uint32_t proved_argon2_job_fill(
@@ -155,7 +156,7 @@ uint32_t proved_argon2_hash_over(
     proved_argon2_block *blocks, size_t blocks_len,
     uint8_t *out, size_t out_len);
 
-/* Whether hash is the tag of its length, computed in the caller's blocks. It also writes the tag, of hash_len bytes. */
+/* Whether hash is the tag of hash_len bytes, computed in the caller's blocks. It also writes that tag. */
 PROVED_ARGON2_CHECKED
 uint32_t proved_argon2_verify_over(
     const void *pwd, size_t pwd_len,

@@ -14,7 +14,7 @@
 extern "C" {
 #endif
 
-/* The size of an encoded hash that proved_argon2_password_hash writes, with its terminating zero. */
+/* The size of proved_argon2_password_hash's buffer: the encoded hash, then zeros. */
 #define PROVED_ARGON2_TEXT_SIZE 128
 
 /* The bytes of a salt (RFC 9106, 3.1). */

@@ -29,9 +29,9 @@ extern "C" {
 typedef int proved_argon2_run(void *pool, uint32_t tasks, void (*task)(void *arg, uint32_t i), void *arg);
 
 /*
- * The progress callback. The call makes it in the caller's thread after each slice: done of all slices are filled, and
- * done is 1 at first. If it returns anything but 0, the call stops and returns PROVED_ARGON2_STOPPED. It must return,
- * and not leave by longjmp or an exception.
+ * The progress callback. The calling thread calls it after each slice with the counts of filled slices (done, from 1)
+ * and of all. If it returns anything but 0, the call stops and returns PROVED_ARGON2_STOPPED. It must return, and not
+ * leave by longjmp or an exception.
  */
 typedef int proved_argon2_progress(void *arg, uint64_t done, uint64_t all);
 
@@ -40,18 +40,18 @@ typedef int proved_argon2_progress(void *arg, uint64_t done, uint64_t all);
 #define PROVED_ARGON2_MAX_VERIFYING_THREADS 16
 /* end */
 
-/* How a call computes. A field that an initializer leaves out is 0, for which each comment says what happens. */
+/* How a call computes. A field that an initializer leaves out is 0; its comment says what that means. */
 typedef struct proved_argon2_options {
     /* sizeof(proved_argon2_options), which PROVED_ARGON2_OPTIONS sets. The call also accepts a larger size, as a later
      * version may have, if it is at most 4096 and all bytes behind the fields of this version are zero. For any other
      * size, 0 or a smaller one included, it returns PROVED_ARGON2_WRONG_LENGTH. */
     size_t size;
     /* the maximum number of threads, or of tasks of run. It is limited to the number of lanes and, if the call verifies
-     * an encoded hash, to PROVED_ARGON2_MAX_VERIFYING_THREADS. 0 means 1. Unless run is set, the calling thread counts
-     * as one of them, and a small hash uses only that thread. */
+     * an encoded hash or an unknown user, to PROVED_ARGON2_MAX_VERIFYING_THREADS. 0 means 1. Unless run is set, the
+     * calling thread counts as one of them, and a small hash uses only that thread. */
     uint32_t threads;
     /* a buffer for the blocks, or null: then the call allocates memory. Its address must be a multiple of 8 (otherwise
-     * the call returns PROVED_ARGON2_MISALIGNED), and should be one of 64. The call clears it before it returns. */
+     * the call returns PROVED_ARGON2_MISALIGNED), preferably of 64. The call clears what it used before it returns. */
     void *memory;
     /* the length of the buffer in bytes. If the settings need more, the call returns PROVED_ARGON2_OUT_OF_MEMORY. */
     size_t memory_len;
@@ -63,9 +63,8 @@ typedef struct proved_argon2_options {
     /* the limits of an encoded hash, or null for none. For a hash above one of them the call returns
      * PROVED_ARGON2_TOO_COSTLY. */
     const proved_argon2_limits *limits;
-    /* the progress callback, or null. The call makes it after each slice, in the calling thread, with the number of
-     * slices that are filled and of all slices. If it returns anything but 0, the call returns
-     * PROVED_ARGON2_STOPPED. */
+    /* the progress callback, or null. The calling thread calls it after each slice, with the numbers of filled slices
+     * and of all slices. If it returns anything but 0, the call returns PROVED_ARGON2_STOPPED. */
     proved_argon2_progress *progress;
     /* the first argument of progress */
     void *arg;
@@ -134,11 +133,10 @@ uint32_t proved_argon2_job_run_verify(
     const proved_argon2_options *options, const proved_argon2_job *job, const uint8_t *hash, size_t hash_len);
 
 /*
- * proved_argon2_password_hash and proved_argon2_password_verify with settings, a pepper and options. The pepper is a
- * secret of all hashes, which none of them contains; pass null and 0 for none. If the options have no limits, no
- * encoded hash is too costly: the default limits do not apply. UINT32_MAX threads are one for each lane. text has
- * PROVED_ARGON2_TEXT_SIZE bytes; for settings whose encoded hash does not fit, the call returns
- * PROVED_ARGON2_WRONG_LENGTH.
+ * proved_argon2_password_hash and proved_argon2_password_verify with settings, a pepper and options. The pepper is one
+ * secret for all hashes, contained in none; pass null and 0 for none. If the options have no limits, no encoded hash is
+ * too costly: the default limits do not apply. text has PROVED_ARGON2_TEXT_SIZE bytes; for settings whose encoded hash
+ * does not fit, the call returns PROVED_ARGON2_WRONG_LENGTH.
  */
 PROVED_ARGON2_CHECKED
 uint32_t proved_argon2_password_hash_with(
@@ -153,8 +151,8 @@ uint32_t proved_argon2_password_verify_with(
 /*
  * For a login whose user does not exist: computes a hash of the password with these settings, so that it takes as long
  * as proved_argon2_password_verify_with does for a stored hash with these settings, and never matches. It returns
- * PROVED_ARGON2_MISMATCH, or the error for which a hash could not be computed. The limits and new_settings of the
- * options have no effect.
+ * PROVED_ARGON2_MISMATCH, or the error that prevented a hash. The limits and new_settings of the options have no
+ * effect.
  */
 PROVED_ARGON2_CHECKED
 uint32_t proved_argon2_password_verify_unknown(
@@ -169,7 +167,7 @@ uint32_t proved_argon2_password_verify_unknown(
 PROVED_ARGON2_CHECKED
 uint32_t proved_argon2_memory_new(const proved_argon2_settings *settings, void **memory, size_t *memory_len);
 
-/* Clears and frees a buffer of proved_argon2_memory_new. A null pointer does nothing. */
+/* Clears and frees a buffer of proved_argon2_memory_new. For null it does nothing. */
 void proved_argon2_memory_free(void *memory, size_t memory_len);
 
 /* clang-format on */
