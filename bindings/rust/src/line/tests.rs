@@ -162,5 +162,10 @@ fn a_line_that_is_gone_keeps_no_buffer() {
     drop(line);
     assert!(shared.upgrade().is_some(), "a place keeps its line");
     drop(place);
-    assert!(shared.upgrade().is_none());
+    let begun = Instant::now();
+    while shared.upgrade().is_some() {
+        // The thread that frees idle buffers holds the line only while it looks at it.
+        assert!(begun.elapsed() < Duration::from_secs(60), "the line is kept");
+        thread::yield_now();
+    }
 }
