@@ -124,6 +124,12 @@ def test_write_updates_the_cases_and_reasons_and_drops_old_tests(tree):
         '# The head\none | 1\none | some | rule\ntest_idle.py | 2\ntest_idle.py | test_it | it is late\n'
 
 
+def test_write_changes_nothing_where_no_test_has_run(tree):
+    put(tree, {'.ci/tests.txt': 'one | 7\n'})
+    assert run(tree / '.ci/gate/count', '--write', cwd=tree).returncode == 1
+    assert (tree / '.ci/tests.txt').read_text(encoding='utf-8') == 'one | 7\n'
+
+
 @pytest.mark.parametrize('file', ['build/clean', '.ci/gate/packages'])
 def test_ci_stops_if_cleaning_or_installing_packages_fails(tree, file):
     (tree / file).write_text('#!/bin/sh\nexit 1\n', encoding='utf-8')
