@@ -1,16 +1,16 @@
 package proved.argon2;
 
 import java.time.Duration;
-import java.util.ArrayDeque;
-import java.util.ArrayList;
-import java.util.Deque;
-import java.util.HashSet;
-import java.util.List;
 import java.util.Set;
 import java.util.concurrent.CancellationException;
 import java.util.concurrent.CompletableFuture;
 import java.util.concurrent.CompletionException;
+import java.util.concurrent.ConcurrentHashMap;
 import java.util.concurrent.ExecutionException;
+import java.util.concurrent.LinkedBlockingQueue;
+import java.util.concurrent.RejectedExecutionException;
+import java.util.concurrent.Semaphore;
+import java.util.concurrent.ThreadPoolExecutor;
 import java.util.concurrent.TimeUnit;
 import java.util.function.Supplier;
 
@@ -29,18 +29,14 @@ public final class HashQueue implements AutoCloseable {
     private static final Duration IDLE = Duration.ofSeconds(10);
     private static final int WAITING_FOR_EACH = 16;
 
-    private final int concurrency;
-    private final int waiting;
-    private final long idleNanos;
-    /** Guards all fields below. It is private, so that no lock of a user blocks the queue. */
-    private final Object lock = new Object();
-    /** The calls that wait. */
-    private final Deque<Task<?>> tasks = new ArrayDeque<>();
-    /** The calls that compute. */
-    private final Set<Task<?>> computing = new HashSet<>();
-    private int threads;
-    private int idle;
-    private boolean isClosed;
+    /** The most threads that the pool can count. */
+    private static final int MOST_THREADS = (1 << 29) - 1;
+
+    private final ThreadPoolExecutor threads;
+    /** A permit for each call that may compute or wait. */
+    private final Semaphore places;
+    /** The calls that compute or wait. */
+    private final Set<Task<?>> tasks = ConcurrentHashMap.newKeySet();
 
     /** A queue in which so many calls compute at a time, at least 1, and so many more wait. */
     public HashQueue(int concurrency, int waiting) {
@@ -51,9 +47,11 @@ public final class HashQueue implements AutoCloseable {
         if (concurrency < 1 || waiting < 0) {
             throw new IllegalArgumentException("concurrency must be at least 1, and waiting at least 0");
         }
-        this.concurrency = concurrency;
-        this.waiting = waiting;
-        this.idleNanos = idle.toNanos();
+        int most = Math.min(concurrency, MOST_THREADS);
+        threads = new ThreadPoolExecutor(
+            most, most, idle.toNanos(), TimeUnit.NANOSECONDS, new LinkedBlockingQueue<>(), Worker::new);
+        threads.allowCoreThreadTimeOut(true);
+        places = new Semaphore((int) Math.min(Integer.MAX_VALUE, (long) concurrency + waiting));
     }
 
     /**
@@ -75,13 +73,9 @@ public final class HashQueue implements AutoCloseable {
      */
     public <T> CompletableFuture<T> submit(Supplier<T> call) {
         Task<T> task = new Task<>(call);
-        task.whenComplete((value, error) -> remove(task));
-        synchronized (lock) {
-            if (isClosed || isFull() || !hasThread()) {
-                throw new Argon2Exception(Argon2Exception.BUSY);
-            }
-            tasks.addLast(task);
-            lock.notify();
+        task.whenComplete((value, error) -> task.leaveQueue());
+        if (!hasPlace() || !isAccepted(task)) {
+            throw new Argon2Exception(Argon2Exception.BUSY);
         }
         return task;
     }
@@ -111,7 +105,7 @@ public final class HashQueue implements AutoCloseable {
             }
             throw new CompletionException(failure.getCause()); // which the call threw: get() has unwrapped it
         } catch (CancellationException cancelled) {
-            if (isClosed()) {
+            if (threads.isShutdown()) {
                 throw new Argon2Exception(Argon2Exception.STOPPED);
             }
             throw cancelled; // by the call itself: nobody else has the future
@@ -121,96 +115,108 @@ public final class HashQueue implements AutoCloseable {
     /** Cancels all calls, and rejects new ones. The threads free their memory and end. */
     @Override
     public void close() {
-        List<Task<?>> all;
-        synchronized (lock) {
-            isClosed = true;
-            all = new ArrayList<>(tasks);
-            all.addAll(computing);
-            lock.notifyAll();
-        }
-        all.forEach(task -> task.cancel(true));
-    }
-
-    private boolean isClosed() {
-        synchronized (lock) {
-            return isClosed;
-        }
+        threads.shutdown();
+        tasks.forEach(task -> task.cancel(true));
     }
 
     /**
-     * Whether no more calls may wait. A cancelled call needs no place, even before {@link #remove} has run: the user's
-     * callbacks run first, and may take long or submit the next call.
+     * Takes a place if there is one. A cancelled call needs no place, even before its own {@link Task#leaveQueue} has
+     * run: the user's callbacks run first, and may take long or submit the next call.
      */
-    private boolean isFull() {
-        if (hasNoPlace()) {
-            tasks.removeIf(CompletableFuture::isDone);
+    private boolean hasPlace() {
+        if (places.tryAcquire()) {
+            return true;
         }
-        return hasNoPlace();
+        tasks.stream().filter(CompletableFuture::isDone).forEach(Task::leaveQueue);
+        return places.tryAcquire();
     }
 
-    /** (The sum of the two numbers could overflow.) */
-    private boolean hasNoPlace() {
-        return computing.size() + tasks.size() - concurrency >= waiting;
-    }
-
-    /** Starts a thread for one more call, if no idle one will take it. Returns whether there is a thread. */
-    private boolean hasThread() {
-        if (tasks.size() >= idle && threads < concurrency) {
-            try {
-                new Worker().start();
-                threads++;
-            } catch (OutOfMemoryError denied) {
-                return threads > 0;
+    /** Passes a call that has a place to the threads, or gives the place back. */
+    private boolean isAccepted(Task<?> task) {
+        boolean isAccepted = false;
+        try {
+            isAccepted = tasks.add(task) && isQueued(task);
+        } finally {
+            if (!isAccepted) {
+                tasks.remove(task);
+                places.release();
             }
         }
-        return true;
+        return isAccepted;
     }
 
-    /** The next call, or null if the thread has to end. If Java has no memory, this throws and changes nothing. */
-    private Task<?> next() {
-        synchronized (lock) {
-            long end = System.nanoTime() + idleNanos;
-            while (tasks.isEmpty()) {
-                long left = end - System.nanoTime();
-                if (isClosed || left <= 0) {
-                    threads--;
-                    return null;
-                }
-                idle++;
-                try {
-                    TimeUnit.NANOSECONDS.timedWait(lock, left);
-                } catch (InterruptedException ignored) {
-                    // Only the call of a user can have interrupted this thread.
-                } finally {
-                    idle--;
-                }
-            }
-            Task<?> task = tasks.getFirst();
-            computing.add(task); // allocates
-            tasks.removeFirst();
-            return task;
-        }
-    }
-
-    private void remove(Task<?> task) {
-        synchronized (lock) {
-            tasks.remove(task);
-        }
-    }
-
-    private void end(Task<?> task) {
-        synchronized (lock) {
-            computing.remove(task);
+    /** If the system denies another thread, the call waits for those that there are. */
+    private boolean isQueued(Task<?> task) {
+        try {
+            threads.execute(task);
+            return true;
+        } catch (RejectedExecutionException closed) {
+            return false;
+        } catch (OutOfMemoryError denied) {
+            threads.getQueue().add(task);
+            return threads.getPoolSize() > 0 || !threads.remove(task);
         }
     }
 
     /** A call, and the future of its result. */
-    private static final class Task<T> extends CompletableFuture<T> {
+    private final class Task<T> extends CompletableFuture<T> implements Runnable {
         /** Null once it was made: it may refer to a password. */
         private Supplier<T> call;
 
         private Task(Supplier<T> call) {
             this.call = call;
+        }
+
+        /** Makes the call. Its place is free before anybody hears of its end. */
+        @Override
+        public void run() {
+            Worker thread = (Worker) Thread.currentThread();
+            T value = null;
+            Throwable error = null;
+            thread.current = this;
+            try {
+                value = isDone() ? null : call.get();
+            } catch (Throwable thrown) {
+                error = thrown;
+            }
+            thread.current = null;
+            call = null;
+            Thread.interrupted(); // the call may have left the thread interrupted
+            leave();
+            while (!isCompleted(value, error)) {
+                Thread.yield();
+            }
+        }
+
+        /** Gives back the place, once. */
+        private void leave() {
+            if (tasks.remove(this)) {
+                places.release();
+            }
+        }
+
+        /** Takes a call that waits, and is cancelled, out of the queue. */
+        private void leaveQueue() {
+            if (threads.remove(this)) {
+                leave();
+            }
+        }
+
+        /**
+         * Completes the future, and returns false if that has to be done again. If there is no memory for the result
+         * of a callback, completing throws, and only another attempt runs the other callbacks and wakes who waits.
+         */
+        private boolean isCompleted(T value, Throwable error) {
+            try {
+                if (error == null) {
+                    complete(value);
+                } else {
+                    completeExceptionally(error);
+                }
+                return true;
+            } catch (Throwable full) {
+                return false;
+            }
         }
     }
 
@@ -221,40 +227,17 @@ public final class HashQueue implements AutoCloseable {
         /** The call that is being made, or null while callbacks of its future run. */
         private Task<?> current;
 
-        private Worker() {
-            super(null, null, "argon2 queue", 0, false);
+        private Worker(Runnable calls) {
+            super(null, calls, "argon2 queue", 0, false);
             setDaemon(true);
         }
 
         @Override
         public void run() {
             try {
-                while (makesCall()) {
-                    Thread.interrupted(); // by a callback
-                }
+                super.run();
             } finally {
                 Native.free(kept);
-            }
-        }
-
-        private HashQueue queue() {
-            return HashQueue.this;
-        }
-
-        /**
-         * Makes the next call, and returns false if there is none. Nothing may end the thread here, not even an {@code
-         * OutOfMemoryError}: the queue would still count it, and calls would wait for it forever.
-         */
-        private boolean makesCall() {
-            try {
-                Task<?> task = next();
-                if (task != null) {
-                    compute(task);
-                }
-                return task != null;
-            } catch (Throwable full) {
-                Thread.yield();
-                return true;
             }
         }
 
@@ -263,40 +246,8 @@ public final class HashQueue implements AutoCloseable {
             return current != null && current.isDone();
         }
 
-        /** The call's place is free before anybody hears of its end. */
-        private <T> void compute(Task<T> task) {
-            T value = null;
-            Throwable error = null;
-            current = task;
-            try {
-                value = task.isDone() ? null : task.call.get();
-            } catch (Throwable thrown) {
-                error = thrown;
-            }
-            current = null;
-            task.call = null;
-            Thread.interrupted(); // the call may have left the thread interrupted
-            end(task);
-            while (!isCompleted(task, value, error)) {
-                Thread.yield();
-            }
-        }
-
-        /**
-         * Completes the future, and returns false if that has to be done again. If there is no memory for the result
-         * of a callback, completing throws, and only another attempt runs the other callbacks and wakes who waits.
-         */
-        private static <T> boolean isCompleted(Task<T> task, T value, Throwable error) {
-            try {
-                if (error == null) {
-                    task.complete(value);
-                } else {
-                    task.completeExceptionally(error);
-                }
-                return true;
-            } catch (Throwable full) {
-                return false;
-            }
+        private HashQueue queue() {
+            return HashQueue.this;
         }
     }
 }

@@ -10,9 +10,7 @@ import static org.junit.jupiter.api.Assertions.assertTrue;
 
 import java.io.IOException;
 import java.lang.ref.WeakReference;
-import java.lang.reflect.Field;
 import java.time.Duration;
-import java.util.HashSet;
 import java.util.List;
 import java.util.concurrent.CancellationException;
 import java.util.concurrent.CompletableFuture;
@@ -156,7 +154,7 @@ class HashQueueTest {
 
     @Test
     void asManyCallsAsANumberCanCountMayWait() {
-        for (int concurrency : new int[] {1, 2, Integer.MAX_VALUE}) {
+        for (int concurrency : new int[] {1, 2, 1 << 29, Integer.MAX_VALUE}) {
             try (HashQueue large = new HashQueue(concurrency, Integer.MAX_VALUE)) {
                 assertEquals("", large.run(() -> ""));
             }
@@ -194,27 +192,6 @@ class HashQueueTest {
     }
 
     @Test
-    void aThreadSurvivesThatMemoryRunsOutBeforeItsCall() throws ReflectiveOperationException, InterruptedException {
-        Field computing = HashQueue.class.getDeclaredField("computing");
-        computing.setAccessible(true);
-        int[] denied = {3};
-        computing.set(queue, new HashSet<Object>() {
-            private static final long serialVersionUID = 1;
-
-            @Override
-            public boolean add(Object task) {
-                if (denied[0]-- > 0) {
-                    throw new OutOfMemoryError("for a test");
-                }
-                return super.add(task);
-            }
-        });
-        assertEquals("first", soon(queue.submit(() -> "first")));
-        assertEquals("second", soon(queue.submit(() -> "second")));
-        assertHasBothPlaces();
-    }
-
-    @Test
     void aCallCanRunAnotherInItsPlace() throws InterruptedException {
         assertEquals("inner", soon(queue.submit(() -> queue.run(() -> queue.run(() -> "inner")))));
         try (HashQueue other = new HashQueue(1, 0)) {
@@ -238,6 +215,19 @@ class HashQueueTest {
         });
         isWatched.countDown();
         assertTrue(hasher.verify(soon(second), new byte[0]));
+    }
+
+    @Test
+    void anEndedCallHasNoPlaceInItsCallbacks() throws InterruptedException {
+        CountDownLatch isWatched = new CountDownLatch(1);
+        CompletableFuture<Void> first = queue.submit(() -> {
+            await(isWatched);
+            return null;
+        });
+        CompletableFuture<List<CompletableFuture<String>>> next =
+            first.thenApply(value -> List.of(queue.submit(() -> "second"), queue.submit(() -> "third")));
+        isWatched.countDown();
+        assertEquals(List.of("second", "third"), soon(next).stream().map(CompletableFuture::join).toList());
     }
 
     @Test
@@ -286,13 +276,28 @@ class HashQueueTest {
             CompletableFuture<Integer> future = submitWith(other, password);
             assertEquals(8, soon(future));
             password = null;
-            for (int round = 0; round < 50 && reference.get() != null; round++) {
-                TimeUnit.MILLISECONDS.sleep(2);
-                System.gc();
-            }
-            assertNull(reference.get());
+            assertForgotten(reference);
             assertTrue(future.isDone() && threads() == 1);
         }
+    }
+
+    @Test
+    void nothingRefersToThePasswordOfACancelledCall() throws InterruptedException {
+        CompletableFuture<String> first = computing();
+        byte[] password = new byte[8];
+        WeakReference<byte[]> reference = new WeakReference<>(password);
+        assertTrue(submitWith(queue, password).cancel(true));
+        password = null;
+        assertForgotten(reference);
+        assertFalse(first.isDone());
+    }
+
+    private static void assertForgotten(WeakReference<byte[]> reference) throws InterruptedException {
+        for (int round = 0; round < 50 && reference.get() != null; round++) {
+            TimeUnit.MILLISECONDS.sleep(2);
+            System.gc();
+        }
+        assertNull(reference.get());
     }
 
     private static CompletableFuture<Integer> submitWith(HashQueue queue, byte[] password) {
