@@ -38,14 +38,14 @@ def locked(crate):
 
 
 def shell(script, *words, check=False, **how):
-    """Runs functions of build/current.sh, which are no Python, since ./argon2 and ./install need none."""
+    """Runs functions of build/current.sh, which is no Python, so that ./argon2 and ./install need none."""
     begin = 'root=$1 why="" && shift && . "$root/build/current.sh" && '
     return subprocess.run(["sh", "-uc", begin + script, "sh", os.path.dirname(HERE), *words], check=check, text=True,
                           stdout=subprocess.PIPE, **how)
 
 
 def stamp(crate):
-    """What the sources of a crate and of those below it are, in one line (`line_of`)."""
+    """A line that identifies the sources of a crate and of those below it (`line_of`)."""
     return shell('line_of "$1" && echo "$line" || ! echo "$why" >&2', crate, check=True).stdout.strip()
 
 

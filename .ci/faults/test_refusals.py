@@ -1,6 +1,6 @@
 """Refuses each request for memory and each start of a worker in turn, in the tests and the programs that the proofs
-leave. A start is refused at all of its tries, and then at all but the last: then the result has to be unchanged. A
-label without a sweep fails, and so does a sweep without a label.
+leave: a sweep for each label of LABELS. A start is refused at all of its tries, and then at all but the last: then the
+result has to be unchanged. A label without a sweep fails, and so does the reverse.
 """
 
 import re
@@ -14,7 +14,7 @@ from shared import TOP
 from vectors import LANES
 
 AT_ONCE = 4 * len(PROCESSORS)  # a start that is refused sleeps between its tries
-IN_TURN = '_refused_in_turn'  # ends the names of tests that are swept
+IN_TURN = '_denied_in_turn'  # ends the names of tests that are swept
 ONE, TWO, MANY = (Hash('argon2i', 19, 2, max(256, 8 * p), p, 32) for p in (1, 2, 16))
 # Above the limits, in a string that is much longer than those of other tests (an argument has at most 128 KiB).
 MORE = MANY._replace(lanes=LANES + 1, length=90_000)
@@ -47,11 +47,11 @@ def labels_of(patterns):
         yield from map(''.join, product(*(part.split(',') if at % 2 else [part] for at, part in enumerate(parts))))
 
 
-# Labels, each of such a run or of a test without its `_refused_in_turn`. Then how many workers it starts: 4 slices *
-# passes * workers, of whom there are at most as many as lanes. Then what its number of requests for memory, the most
-# that it held, and other labels' numbers have to satisfy.
+# Each label is that of such a run, or a test's name without `_denied_in_turn`. Then how many workers it starts: 4
+# slices * passes * workers, at most one for each lane. Then a condition on its number of requests for memory (`own`),
+# the most that it held at once (`held`), and other labels' numbers.
 LABELS = {label: holds for patterns, *holds in (
-    # Hashing, by the inputs of RFC 9106: 3 passes in 4 lanes. A slice by workers asks for its board.
+    # Hashing the inputs of RFC 9106: 3 passes in 4 lanes. Workers allocate a board for each slice.
     ('hash_raw_by_workers_argon2{d,i,id}', 4 * 3 * 4,
      lambda of: of.own == of.hash_raw_by_workers_argon2d >= of.finalize + 48 + 12),
     ('hash_raw_by_two_workers_argon2{d,i,id}', 4 * 3 * 2,
@@ -63,7 +63,7 @@ LABELS = {label: holds for patterns, *holds in (
     ('hash_encoded_{in_one_thread,sequential}', 0, lambda of: of.own == of.finalize + of.encode_string),
     ('hash_raw_{in_one_thread,sequential}_argon2{d,i,id} verify_raw_{in_one_thread,sequential}', 0,
      lambda of: of.own == of.finalize),
-    # The matrix. A fill in one thread asks for nothing, and the tag is one request.
+    # The matrix. Filling it in one thread allocates nothing, and the tag is one request.
     ('memory_new', 0, lambda of: of.own > 0),
     ('memory_new_and_filled_argon2{d,i,id} fill_memory_blocks_in_one_thread', 0, lambda of: of.own == of.memory_new),
     ('fill_memory_blocks_by_workers', 4 * 3 * 4, lambda of: of.own == of.hash_raw_by_workers_argon2d - 1),
@@ -78,8 +78,8 @@ LABELS = {label: holds for patterns, *holds in (
     ('verify_encoded_ext_of_20_lanes', 4 * 2 * 16, lambda of: of.own > 0),
     ('verify_encoded_{ext,within}', 4 * 3 * 4, lambda of: of.own == of.hash_raw_by_workers_argon2d + of.decode_string),
     ('verify_encoded_{sequential,within_sequential}', 0, lambda of: of.own == of.finalize + of.decode_string),
-    # Twice over one memory. The second call asks for all but the memory. One of another shape is freed first, and then
-    # held beside a tag; the room for all of it, a request of each memory, is given back at once.
+    # Two calls with one memory. The second allocates all but the memory. For another shape, the old memory is freed
+    # first, and the new one is held beside a tag; each also requests room for all of it, and frees that at once.
     ('{hash,verify}_raw_in_twice', 2 * 4 * 3 * 4, lambda of: of.own == 2 * of.verify_raw_by_workers - of.memory_new),
     ('{hash,verify}_raw_in_sequential_twice', 0, lambda of: of.own == of.finalize + 1),
     ('hash_encoded_in_twice', 2 * 4 * 3 * 4, lambda of: of.own == 2 * of.hash_encoded_by_workers - of.memory_new),
@@ -87,15 +87,16 @@ LABELS = {label: holds for patterns, *holds in (
     ('verify_encoded_in_twice', 2 * 4 * 3 * 4, lambda of: of.own == 2 * of.verify_encoded_ext - of.memory_new),
     ('verify_encoded_in_sequential_twice', 0, lambda of: of.own == 2 * of.verify_encoded_sequential - of.memory_new),
     ('hash_raw_in_another_shape', 0, lambda of: of.own == of.finalize + of.memory_new and of.held == of.memory_new),
-    # Texts, each of which is one request, and so are a salt and a hash: a buffer that grows would leave copies of them.
-    # And what is refused before anything is asked for.
+    # An encoded hash is one request, and so are a salt and a tag: a buffer that grows would leave copies of them.
+    # And calls that reject their input before they allocate.
     ('encode_string', 0, lambda of: of.own == 1),
     ('decode_string', 0, lambda of: of.own == 2),
     ('needs_{rehash,no_rehash}', 0, lambda of: of.own == of.decode_string),
     ('head_faults a_text_within_limits_is_judged a_costly_text_of_any_length_allocates_nothing '
      '{hashing,verifying_a_tag,verifying_an_empty_tag}_allocates_nothing '
      '{an_unspelled,a_refused,a_costly}_text_allocates_nothing', 0, lambda of: of.own == 0),
-    # Runs of the program, of 2 passes. What is no text and what is above the limits ask for as much, and start nothing.
+    # Runs of the program, of 2 passes. An invalid encoded hash and one above the limits allocate as much, and start
+    # nothing.
     ('program_hash_by_workers', 4 * 2 * 2, lambda of: of.own > of.program_hash_in_one_thread + 16),
     ('program_{hash_in_one_thread,verify_in_one_thread,verify_of_another,rehash}', 0, lambda of: of.own > 0),
     ('program_no_rehash', 0, lambda of: of.own == of.program_rehash),
@@ -164,7 +165,7 @@ def test_each_sweep_has_a_label(sweeps):
 
 
 @pytest.mark.parametrize('label', LABELS)
-def test_refused_in_turn(came, label):
+def test_denied_in_turn(came, label):
     starts, holds = LABELS[label]
     requests, started, held, faults = came(label)
     assert not faults

@@ -6,8 +6,8 @@ func Key(password, salt []byte, time, memory uint32, threads uint8, keyLen uint3
 }
 
 // IDKey derives a key with Argon2id, as golang.org/x/crypto/argon2 does, with the same panics for no pass and no
-// thread. It also panics with an [Error] where Argon2 defines no hash, and that package returns some bytes: for fewer
-// than 8 KiB of memory a thread, a salt under 8 bytes, and a key under 4 bytes.
+// thread. It also panics with an [Error] if memory runs out, and where Argon2 defines no hash but that package returns
+// bytes: below 8 KiB of memory a thread, 8 bytes of salt, or 4 bytes of key.
 func IDKey(password, salt []byte, time, memory uint32, threads uint8, keyLen uint32) []byte {
 	return deriveKey(ID, password, salt, time, memory, threads, keyLen)
 }

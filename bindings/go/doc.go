@@ -1,9 +1,9 @@
-// Package argon2 hashes and verifies passwords with Argon2 (RFC 9106). A proved C library computes the hashes; its
-// driver, its compression on AVX-512 and ARM64, and this package are only tested. The package contains the library: a
-// program needs only cgo and a C compiler.
+// Package argon2 hashes and verifies passwords with Argon2 (RFC 9106). Proved code computes the hashes, except the
+// compression on AVX-512 and ARM64, which is checked by a tool. The C driver and this package are tested. The package
+// contains the library: a program needs only cgo and a C compiler.
 //
-// A service makes one [Hasher], which limits how many hashes are computed at a time. Programs that have no such limit
-// to keep call [Hash], [Verify] and [VerifyAndUpdate]. [IDKey] and [Key] have the signatures of
+// A service makes one [Hasher], which limits how many hashes are computed at a time. Programs that need no such limit
+// call [Hash], [Verify] and [VerifyAndUpdate]. [IDKey] and [Key] have the signatures of
 // golang.org/x/crypto/argon2.
 //
 // # Memory

@@ -32,7 +32,7 @@ const (
 	ErrLanesTooMany     Error = 16  // there are more than 2^24 - 1 lanes
 	ErrIncorrectType    Error = 17  // no variant has this number
 	ErrIncorrectVersion Error = 18  // no version has this number
-	ErrDecodingFail     Error = 19  // the string decodes to no hash
+	ErrDecodingFail     Error = 19  // the string is not an encoded hash
 	ErrOutOfMemory      Error = 20  // memory could not be allocated, or the buffer of the options is too small
 	ErrWorkerRefused    Error = 21  // the thread pool of the options did not run its tasks
 	ErrTooCostly        Error = 69  // the encoded hash is above the limits

@@ -24,9 +24,9 @@ func Verify(encoded string, password []byte) (matches bool, err error) {
 	return run{}.verify(encoded, password, Settings{}, DefaultLimits())
 }
 
-// VerifyAndUpdate verifies a password as [Verify] does, with the secret and the data of the settings, and within
-// [LimitsFor] them. If the password matches and the hash [NeedsRehash], updated is the encoded hash to store in its
-// place. If only the new hash fails, the password matches all the same, and updated is empty.
+// VerifyAndUpdate verifies a password as [Verify] does, with the secret and the data of the settings, and within their
+// limits ([LimitsFor]). If the password matches and [NeedsRehash] returns true, updated is the new encoded hash to
+// store. If only the new hash fails, the password matches all the same, and updated is empty.
 func VerifyAndUpdate(encoded string, password []byte, settings Settings) (matches bool, updated string, err error) {
 	return run{}.verifyAndUpdate(encoded, password, settings, settings, false, LimitsFor(settings))
 }

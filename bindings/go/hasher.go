@@ -38,8 +38,8 @@ type Hasher struct {
 	limits   Limits
 }
 
-// NewHasher returns a Hasher that computes this many hashes at a time, at least one, and lets this many more callers
-// wait. Its limits are [LimitsFor] the settings. It does not copy Settings.Secret and Settings.Data: do not change
+// NewHasher returns a Hasher that computes concurrency hashes at a time, at least one; waiting is how many more callers
+// may wait. Its limits are [LimitsFor] the settings. It does not copy Settings.Secret and Settings.Data: do not change
 // their bytes while the Hasher is used.
 func NewHasher(settings Settings, concurrency, waiting int) *Hasher {
 	if concurrency < 1 {
@@ -110,7 +110,7 @@ func (h *Hasher) VerifyUnknown(ctx context.Context, password []byte) (matches bo
 	return false, err
 }
 
-// Format prints the settings of the Hasher without the secret, also of a Hasher that is no pointer.
+// Format prints the settings of the Hasher without the secret, whether or not it is a pointer.
 func (h Hasher) Format(state fmt.State, verb rune) {
 	io.WriteString(state, "argon2.Hasher")
 	h.settings.Format(state, verb)

@@ -11,11 +11,11 @@ type Pepper struct {
 	Key []byte `json:"-"`
 }
 
-// Format prints the ID, and not the key. Package fmt calls it only for a value that it may read: the fields of a struct
-// have to be exported for that. So keep a Pepper in an unexported field behind a pointer, or fmt prints the key.
+// Format prints the ID, and not the key. Package fmt does not call it for an unexported field of a struct, and then
+// prints the key. So keep only a pointer to a Pepper in such a field.
 func (p Pepper) Format(state fmt.State, _ rune) { fmt.Fprintf(state, "{ID:%q}", p.ID) }
 
-// Stored is what you store for a user: an encoded hash, and the ID of its pepper. The ID is empty if it has none.
+// Stored is what you store for a user: an encoded hash, and the ID of its pepper, which is empty without a pepper.
 type Stored struct {
 	PepperID string
 	Encoded  string
@@ -63,9 +63,9 @@ func (p *Peppers) Hash(ctx context.Context, password []byte) (Stored, error) {
 	return Stored{p.peppers[0].ID, encoded}, nil
 }
 
-// VerifyAndUpdate verifies a password with the pepper of the stored hash. If the password matches, and the hash has
-// another pepper than the newest or [NeedsRehash], updated is what to store in its place; otherwise it is nil. If no
-// pepper has the ID, it returns [ErrUnknownPepper]: also if the ID is empty, unless you [Peppers.AcceptUnpeppered].
+// VerifyAndUpdate verifies a password with the pepper of the stored hash. If the password matches, and the hash has an
+// older pepper or other settings, updated is what to store instead; otherwise, or if the new hash fails, it is nil. If
+// no pepper has the ID, the error is [ErrUnknownPepper], also for an empty ID without [Peppers.AcceptUnpeppered].
 func (p *Peppers) VerifyAndUpdate(ctx context.Context, stored Stored, password []byte) (
 	matches bool, updated *Stored, err error) {
 	old, err := p.settingsOf(stored.PepperID)

@@ -93,7 +93,7 @@ typedef enum Argon2_ErrorCodes {
     ARGON2_VERIFY_MISMATCH = -35
 } argon2_error_codes;
 
-/* Sets *memory to so many bytes, at a multiple of 8, or leaves null. Its result is ignored. */
+/* Sets *memory to the address of so many bytes, a multiple of 8, or leaves it null. Its result is ignored. */
 typedef int (*allocate_fptr)(uint8_t **memory, size_t bytes_to_allocate);
 typedef void (*deallocate_fptr)(uint8_t *memory, size_t bytes_to_allocate);
 

@@ -6,7 +6,7 @@
 #include <string.h>
 #include <time.h>
 
-#define MOST_PASSWORD 128 /* bytes, of which the last one is too many */
+#define MOST_PASSWORD 128 /* bytes: a password must be shorter */
 
 typedef struct settings {
     uint32_t passes, memory, lanes, length, version;

@@ -97,8 +97,8 @@ static void give_memory_back(const argon2_context *c, const proved_argon2_option
         c->free_cbk(with->memory, with->memory_len);
 }
 
-/* Without a callback the driver allocates the memory, unless flags ask to clear inputs: if memory runs out, these must
- * be unchanged, so that the caller can retry. */
+/* Without a callback the driver allocates the memory. If flags ask to clear inputs, it is allocated here, before that,
+ * so that the caller can retry if memory runs out. */
 static int take_memory(const argon2_context *c, const proved_argon2_settings *settings, proved_argon2_options *with)
 {
     uint8_t *memory = NULL;

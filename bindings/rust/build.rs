@@ -80,8 +80,8 @@ fn name_of_target() -> Result<String, String> {
         ("linux", "gnu" | "musl") if is_wide => Ok(target("ARCH")),
         ("windows", "gnu") if target("ARCH") == "x86_64" => Ok("windows-x86_64".to_string()),
         _ => Err(format!(
-            "there is no archive for {}: they are for Linux with the GNU C library or musl, and for Windows on x86-64 \
-             with mingw-w64's",
+            "there is no archive for {}: archives are for Linux with the GNU C library or musl, and for Windows on \
+             x86-64 with mingw-w64",
             named("TARGET")
         )),
     }

@@ -4,12 +4,12 @@
 #     name        what the user calls it
 #     version     the version
 #     help        the file help.txt, in which NAME is replaced by that name
-#     prepare     a function that makes the program ready and sets `program` to its file, and `is_known` where it is
-#                 known to be loaded here
+#     prepare     a function that makes the program ready and sets `program` to its file, and `is_known` if the program
+#                 is known to load on this system
 #
 # `--help`, `--version` and `tune` are done here. All else is passed on, with the standard streams, and the program says
-# which argument is wrong. To `new` a random salt is added, and OWASP's settings if there are none. On a terminal a
-# password is asked for without an echo.
+# which argument is wrong. `new` also gets a random salt, and OWASP's settings if it has none. On a terminal, the script
+# asks for a password without echo.
 # shellcheck shell=sh disable=SC2154
 
 newline='
@@ -21,7 +21,7 @@ owasp_settings='argon2id 19 2 19456 1 32 seq'
 # The memory that `tune` measures first if none is named, in KiB: RFC 9106's second recommendation.
 tuned_memory=65536
 
-# Of OWASP's choices the least memory in KiB, and the least work: of less a hash protects no password.
+# OWASP's least memory in KiB, and its least work: a hash with less does not protect a password well.
 least_memory=7168
 least_work=35840
 
@@ -32,18 +32,18 @@ tuned_salt=736f6d6573616c74
 # Where Linux says how many programs have run at once in the last minute.
 loads=/proc/loadavg
 
-# The builds that have programs, and what a processor has for each, beside what it has for the one before, as Linux
-# names it.
+# The builds that have programs, the oldest first, and the CPU flags, as Linux names them, that each needs beyond those
+# of the build before it.
 # builds, by .ci/pages/presets
 oldest_build=x86-64-v2
 flags_of_builds='x86-64-v2: cx16 lahf_lm popcnt pni sse4_1 sse4_2 ssse3
 x86-64-v3: abm avx avx2 bmi1 bmi2 f16c fma movbe'
 # end
 
-# What the program's C library is told, where the user tells it nothing: to ask for huge pages.
+# Makes the program's C library request huge pages, unless the user has set GLIBC_TUNABLES.
 tunables=glibc.malloc.hugetlb=1
 
-# The oldest C library that the programs are loaded with.
+# The oldest C library with which the programs can be loaded.
 least_glibc=2.34
 
 # How many bytes of a line a terminal gives at most. It drops the rest silently.
@@ -102,7 +102,8 @@ run() {
     exec "$program" "$@"
 }
 
-# Ends where the program does not come to read the password: it judges its arguments first, and no folder can be read.
+# Ends unless the program tries to read the password: its input here is a folder, so with right arguments it fails with
+# `input`.
 judge() {
     { said=$("$program" "$@" </ 2>&1 >&3 3>&-); } 3>&1
     status=$?
@@ -120,8 +121,8 @@ make_ready() {
     export GLIBC_TUNABLES
 }
 
-# Ends where the program cannot be loaded: then the loader names a version that the system's C library lacks, or the
-# shell the loader itself.
+# Ends if the program cannot be loaded: then the loader names a version that the system's C library lacks, or the shell
+# says that the loader is missing.
 require_loader() {
     loaded=$(LD_TRACE_LOADED_OBJECTS=1 "$program" 2>&1 </dev/null)
     case $?:$loaded in
@@ -208,8 +209,8 @@ watch_input() {
     { pass_on 3>&1 | tell_of_end; } 4>&1
 }
 
-# Passes standard input to the descriptors 3 and 4, as much as the tool reads. A status of 1 is that of a failed read; a
-# signal ends `head` and `tee` where the tool reads no more.
+# Passes as much of standard input as the tool reads to descriptors 3 and 4. `head` ends with status 1 if a read failed;
+# a signal ends `head` and `tee` if the tool stops reading.
 pass_on() {
     { head -c "$most_read" 2>/dev/null || [ $? != 1 ] || { add 'the input cannot be read' && echo '!unread' >&5; }; } \
         | tee /dev/fd/3 >&4 2>/dev/null
@@ -307,8 +308,8 @@ tell_of_load() {
 programs a hash takes less time than was measured"
 }
 
-# Prints the strongest settings whose hash took no longer than this: as much memory as that leaves time for, and then as
-# many passes, as the other languages find them: `tune MILLISECONDS [KIB]`.
+# Prints the strongest settings whose hash took at most MILLISECONDS: first as much memory as possible, then as many
+# passes, as the other languages find them: `tune MILLISECONDS [KIB]`.
 tune() {
     [ $# != 1 ] || set -- "$1" "$tuned_memory"
     { [ $# = 2 ] && is_number "$1" && is_number "$2"; } || {
@@ -341,7 +342,7 @@ find_memory() {
     fail 1 "tune: no settings for passwords within $2 KiB take $1 milliseconds here"
 }
 
-# Raises `passes`, which were measured as `took`, as far as the hash takes no longer and `check` takes it:
+# Raises `passes`, whose hash took `took`, as long as the hash takes at most MILLISECONDS and `check` accepts it:
 # `add_passes MILLISECONDS`.
 add_passes() {
     fitting=$passes

@@ -85,7 +85,7 @@ static int is_mode(const char *word, uint32_t *threads)
         || (strncmp(word, "max", 3) == 0 && is_number(word + 3, threads));
 }
 
-/* What a word is not that has to be of a kind, or NULL. */
+/* What a word of this kind should be, or NULL if it is that. */
 static const char *fault_of(char kind, const char *word, uint32_t *number)
 {
     switch (kind) {
@@ -133,7 +133,7 @@ static int is_utf8(const char *word)
 /* Finds the command and reads its settings. It reports usage errors in the same words as the proved program. */
 static int is_command(int count, char **word)
 {
-    with.threads = UINT32_MAX; /* as many as there are lanes, or as the library has for an encoded hash */
+    with.threads = UINT32_MAX; /* one per lane, but at most 16 for an encoded hash */
     for (int i = 0; i < count; i++)
         if (!is_utf8(word[i])) return fputs("usage\nan argument is not UTF-8\n", stderr), 0;
     if (count == 0) return fputs("usage\nthere is no command; see --help\n", stderr), 0;

@@ -1,6 +1,6 @@
 /*
- * A library that computes nothing and answers the numbers that a test has set, for the tests of the packages for
- * Rust and Python: what they say of each number.
+ * A library that computes nothing and returns the numbers that a test has set. The tests of the packages for Python,
+ * Rust, Go and Java see what these say of each number.
  */
 #include "proved_argon2.h"
 
@@ -19,21 +19,21 @@
         (settings)->hash_length
 #define EACH_INPUT SHOWN(pwd), SHOWN(salt), SHOWN(secret), SHOWN(ad), EACH(settings)
 
-/* What is answered: by proved_argon2_check, by any call that computes, by proved_argon2_read, and to who asks for a
- * memory, of which each KiB takes so many bytes. */
+/* What is returned by proved_argon2_check, by any call that computes, by proved_argon2_read, and by
+ * proved_argon2_memory_new; and how many bytes each KiB of such a memory takes. */
 static uint32_t checking, answer, reading, shortage, kib;
 
-/* What the last call was passed that computes, that checks, and that does neither. */
+/* The arguments of the last call of each kind: that computes, that checks, and that does neither. */
 enum { COMPUTING, JUDGING, TELLING, KINDS };
 static char passed[KINDS][400];
 
-/* Of the last call with options: how many threads it asked for, which names no pool; how many bytes of memory it was
- * passed, or -1; what it was answered that told that it had filled a slice, or -1 where nobody was to be told. */
+/* Of the last call with options, which names no pool: how many threads it asked for; how many bytes of memory it was
+ * passed, or -1; and what its progress callback returned, or -1 without a callback. */
 static uint32_t threads;
 static int64_t memory_len, progress_result;
 
-/* How many memories were asked for, are there, which those are not that were freed with another length, and were there
- * at once. */
+/* How many memories were asked for, how many exist now (one that was freed with a wrong length still counts), and how
+ * many existed at once. */
 static uint32_t asked, memories, most_memories;
 
 void set_answers(uint32_t check, uint32_t then, uint32_t read, uint32_t memory, uint32_t kib_size)

@@ -129,8 +129,8 @@ def test_own_tests_of_libargon2(work, tmp_path):
 
 
 def test_own_tests_of_argon2_cffi(work, tmp_path):
-    """Of the newest source that Debian has, over Debian's bindings of it, which are built with the system's library.
-    (Those of its packaging look for the files of an installed one; and an older Python looks for the other name.)"""
+    """From Debian's newest source, over Debian's bindings, which are built with the system's library. (The tests of its
+    packaging are left out, since they need installed files; and an older Python looks for the other name.)"""
     pytest.importorskip("hypothesis")
     source = fetched("source", "python-argon2", tmp_path / "cffi")
     bindings = fetched("package", "python3-argon2-cffi-bindings", tmp_path / "bindings")

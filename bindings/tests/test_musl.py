@@ -11,7 +11,7 @@ ARCHIVE, SHARED = MADE / 'libproved_argon2.a', MADE / f'libproved_argon2.so.{VER
 CC = *'musl-gcc -std=c11 -D_GNU_SOURCE -O2 -Wall -Wextra -Werror -I'.split(), TOP / 'bindings/c/include'
 ENCODED = '$argon2id$v=19$m=256,t=2,p=2$c29tZXNhbHQ$bQk8UB/VmZZF4Oo79iDXuL5/0ttZwg2f/5U52iv1cDc'
 TAG = '6d093c501fd5999645e0ea3bf620d7b8be7fd2db59c20d9fff9539da2bf57037'
-# A program of Rust's own core over the calls, of which nothing is another C library's.
+# A program of Rust's core library over the calls: no part of it is from another C library.
 OF_CORE = """
 #![no_std]
 #![no_main]

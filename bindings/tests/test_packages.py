@@ -281,7 +281,7 @@ def with_pages(packages, tmp_path_factory):
 @pytest.mark.parametrize('name', [pytest.param(name, marks=needs(*NEEDS.get(name, []))) for name in FROM])
 def test_each_package_works_alone_and_leaves_nothing_when_removed(with_pages, tmp_path, name):
     if name == 'libargon2' and not any((with_pages / 'theirs').iterdir()):
-        pytest.skip('there is no package of Debian for the way back')
+        pytest.skip("Debian's libargon2-1 cannot be downloaded")
     run(*in_namespace(ALONE, tmp_path, with_pages, TOP, BEFORE + FROM[name]))
 
 
@@ -325,7 +325,7 @@ FRESH = {'bookworm': [INSTALLS, SWAPS, THERE_AND_BACK, UPGRADE, INSTALLS, THERE_
 @needs('mmdebstrap')
 @pytest.mark.parametrize('release', FRESH)
 def test_a_fresh_system(packages, tmp_path, release):
-    """(Ubuntu's mirror is beside Debian's, which lacks its keys.)"""
+    """(Ubuntu's mirror, beside Debian's, is trusted, since Debian lacks its keys.)"""
     system, of, sources = tmp_path / 'system', *(
         ('ubuntu', 'deb [trusted=yes] {} noble main') if release == 'noble' else ('debian', '{}'))
     mirror = run('bash', '-c', f'. bindings/tests/fetching.bash; mirror_of {of}').strip()

@@ -210,8 +210,8 @@ def test_a_login_of_an_unknown_user_computes_one_hash_with_the_settings_and_neve
         "Ok(false)", "Err(OutOfMemory)", "Err(OldProcessor)")]
 
 
-# The crates of a program, which are Debian's, and flags of the compiler. For the first the linker wraps the calls that
-# allocate a buffer and start a thread. The next is a service for RustCrypto's argon2: only its manifest names another
+# The crates of each program, which are Debian's, and the compiler's flags. For `memory` the linker wraps the calls that
+# allocate a buffer and start a thread. `traits` is a service for RustCrypto's argon2: only its manifest names another
 # package.
 TOKIO = 'tokio = { version = "1", features = ["rt-multi-thread", "macros", "time"] }'
 PROGRAMS = {
@@ -395,8 +395,8 @@ NAMES = "TARGET", *(f"CARGO_CFG_TARGET_{name}" for name in ("ARCH", "OS", "ENV",
 
 
 class Repository:
-    """A repository with the build script of this crate, a build and a release, which `is_current` or of other
-    sources."""
+    """A repository with the build script of this crate, a build, and a release, which is of these sources if
+    `is_current`."""
 
     def __init__(self, folder, is_current):
         self.folder, self.released = folder, folder / "release/x86_64"

@@ -101,7 +101,7 @@ def test_an_older_glibc_is_named_with_status_70(for_newer_glibc, tmp_path):
     expected = 70, b"", b"proved-argon2: the programs need glibc 2.34 or newer, which this system does not have\n"
     for words in (["new"], ["check", STORED], ["verify", STORED], ["tune", "9"], ["hash"], ["hlep"]):
         assert piped(words, b"password", command=for_newer_glibc) == expected, words
-    # where the loader itself is another one, as musl's, the shell finds none
+    # with another loader, such as musl's, the shell finds none
     for program in tmp_path.glob("libexec/proved-argon2/*/argon2_tool"):
         code = program.read_bytes()
         program.write_bytes(code.replace(b"/lib64/ld-linux-x86-64.so.2", b"/lib64/ld-other-x86-64.so.2"))

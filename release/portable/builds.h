@@ -27,8 +27,8 @@
 
 #else
 
-/* The builds, newest last: the number of each, and its part of calls' names. Those for x86-64 keep Linux's calling
- * convention, which compilers for Windows know too. */
+/* The builds, newest last: the number of each, and the name that its calls contain. Builds for x86-64 keep Linux's
+ * calling convention, which compilers for Windows know too. */
 /* clang-format off */
 #ifdef __aarch64__
 #define BY_LINUX

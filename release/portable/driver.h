@@ -33,11 +33,11 @@ typedef struct worker {
     uint32_t code;
 } worker;
 
-/* The state of a call, which overwrites it at its end. */
+/* The state of a call. The call overwrites this state at its end. */
 struct call {
     options with;
     proved_argon2_job job;
-    uint8_t *bytes; /* memory of the call's own for a hash, a tag and a salt */
+    uint8_t *bytes; /* what the call allocates for a hash, a tag and a salt */
     size_t len;
     bool is_rehash_due; /* the encoded hash has other settings than the options' */
     caller saved;

@@ -20,8 +20,8 @@
  * for its own threads or your pool and, if it makes a salt, for the system's random bytes. It reads only its arguments.
  * The first call of a process also finds out which of the library's builds the processor can run, and reads the
  * environment variable PROVED_ARGON2_CPU, with which tests choose a build. If none can run, each call that can fail
- * returns PROVED_ARGON2_OLD_PROCESSOR before it reads variant, version or encoded hash, and numbers that others return
- * are zero.
+ * returns PROVED_ARGON2_OLD_PROCESSOR before it reads variant, version or encoded hash, and calls that return other
+ * numbers return zeros.
  *
  * Memory. A call that hashes or verifies allocates at most the settings' mem_cost KiB for its blocks, and memory for
  * the tag, and for the hash and the salt of an encoded hash. If the blocks need 2 MiB or more, they use huge pages if
@@ -30,8 +30,8 @@
  * compiled by GCC 11, clang 15 or newer, the vector registers.
  *
  * Threads. Calls are thread-safe, as long as nothing writes to what a call is passed: an encoded hash that changes
- * while it is read may end the process. The only state of the library is which build it runs. A thread is cancelled
- * during a call only if its cancellation is asynchronous: just before the call returns or, in the proved calls of
+ * while it is read may end the process. The only state of the library is which build it runs. During a call only
+ * a thread with asynchronous cancellation can be cancelled: just before the call returns or, in the proved calls of
  * proved_argon2_jobs.h, anywhere. Calls are not async-signal-safe, so make none from a signal handler. In the forked
  * child of a process with threads, calls are safe if malloc is, as with the GNU C library.
  *
@@ -73,7 +73,7 @@ extern "C" {
 #define PROVED_ARGON2_MIN_HASH_LENGTH UINT32_C(4)
 #define PROVED_ARGON2_MAX_HASH_LENGTH UINT32_C(0xFFFFFFFF)
 
-/* The variants (RFC 9106, 1). They differ in what determines which earlier block a block refers to. */
+/* The variants (RFC 9106, 1). They differ in what selects the earlier block that a new block is computed from. */
 enum proved_argon2_variant {
     PROVED_ARGON2_D = 0, /* the blocks, and so the password */
     PROVED_ARGON2_I = 1, /* only the block's position */
@@ -108,18 +108,18 @@ enum proved_argon2_code {
     PROVED_ARGON2_LANES_TOO_MANY = 16,    /* there are more than 2^24 - 1 lanes */
     PROVED_ARGON2_INCORRECT_TYPE = 17,    /* no variant has this number */
     PROVED_ARGON2_INCORRECT_VERSION = 18, /* no version has this number */
-    PROVED_ARGON2_DECODING_FAIL = 19,     /* the string decodes to no hash */
+    PROVED_ARGON2_DECODING_FAIL = 19,     /* the string is not an encoded hash */
     PROVED_ARGON2_OUT_OF_MEMORY = 20,     /* memory could not be allocated, or the buffer of the options is too small */
     PROVED_ARGON2_WORKER_REFUSED = 21,    /* the thread pool of the options did not run its tasks */
     PROVED_ARGON2_MISMATCH = 64,          /* the password does not match */
     PROVED_ARGON2_WRONG_LENGTH = 65,      /* a buffer has the wrong length, or the options have an unknown size */
     PROVED_ARGON2_NOT_ASCII = 66,         /* the string has a byte above 127 */
-    PROVED_ARGON2_UNKNOWN_NUMBER = 67,    /* never returned; its message is that of a number that no error has */
+    PROVED_ARGON2_UNKNOWN_NUMBER = 67,    /* never returned; its message is used for unknown numbers */
     PROVED_ARGON2_NEEDS_REHASH = 68,      /* the encoded hash was made with other settings */
     PROVED_ARGON2_TOO_COSTLY = 69,        /* the encoded hash is above the limits */
-    PROVED_ARGON2_NO_JOB = 70,            /* no accepted call has a job of these numbers */
+    PROVED_ARGON2_NO_JOB = 70,            /* no valid settings have a job with these numbers */
     PROVED_ARGON2_NO_PLACE = 71,          /* the job has no such pass, slice or lane */
-    PROVED_ARGON2_WRONG_BLOCKS = 72,      /* there are more or fewer blocks */
+    PROVED_ARGON2_WRONG_BLOCKS = 72,      /* there are more or fewer blocks than the settings require */
     /* end */
     /* Only C code returns these; no proved call does: */
     /* errors of the driver, by .ci/pages/presets */
@@ -127,7 +127,7 @@ enum proved_argon2_code {
     PROVED_ARGON2_NO_RANDOM_BYTES = 129, /* the system had no random bytes for a salt */
     PROVED_ARGON2_STOPPED = 130,         /* the progress callback stopped the call */
     PROVED_ARGON2_OLD_PROCESSOR = 131,   /* the library has no build for this processor */
-    PROVED_ARGON2_MISALIGNED = 132,      /* blocks or a reusable buffer are at no multiple of 8 */
+    PROVED_ARGON2_MISALIGNED = 132,      /* blocks or a reusable buffer are not at a multiple of 8 */
     /* end */
 };
 
@@ -226,8 +226,8 @@ uint32_t proved_argon2_verify_raw(
     const uint8_t *hash, size_t hash_len);
 
 /*
- * Verifies a password against an encoded hash, with this secret and this associated data: PROVED_ARGON2_OK only if it
- * matches, and PROVED_ARGON2_MISMATCH only if it does not, as above.
+ * Verifies a password against an encoded hash, with this secret and this associated data. As above, it returns
+ * PROVED_ARGON2_OK only if the password matches, and PROVED_ARGON2_MISMATCH only if it does not.
  *
  * text_len is the length of the string without its terminating zero. For a string with a byte above 127 the call
  * returns PROVED_ARGON2_NOT_ASCII, and for any other that is not an encoded hash PROVED_ARGON2_DECODING_FAIL. Then it
@@ -291,17 +291,17 @@ uint32_t proved_argon2_needs_rehash(
     const char *text, size_t text_len, const proved_argon2_settings *settings);
 
 /*
- * Whether a hash with these settings can be made from inputs of these lengths. It returns PROVED_ARGON2_OK only if a
- * call that hashes such inputs can fail only because of its buffers or of memory, and otherwise the error of that call.
- * Nothing is computed, and no input is passed.
+ * Whether a hash with these settings can be made from inputs of these lengths. If a call that hashes such inputs would
+ * reject them or the settings, it returns the error of that call, and otherwise PROVED_ARGON2_OK. It does not check
+ * buffers or memory, computes nothing, and is passed no input.
  */
 PROVED_ARGON2_CHECKED
 uint32_t proved_argon2_check(
     const proved_argon2_settings *settings, uint64_t pwd_len, uint64_t salt_len, uint64_t secret_len, uint64_t ad_len);
 
 /*
- * The same for a call that verifies an encoded hash within limits, with inputs of these lengths. It returns the errors
- * of proved_argon2_read_within first, and writes the same to stored.
+ * The same for a call that verifies an encoded hash within limits, with inputs of these lengths. It first returns the
+ * errors of proved_argon2_read_within, and writes to stored what that call writes.
  */
 PROVED_ARGON2_CHECKED
 uint32_t proved_argon2_check_encoded(

@@ -1,6 +1,6 @@
 /* Functions that copy and set bytes. build/link makes all objects of the archive call these in place of memcpy, memmove
- * and memset: on a processor with AVX-512 the system's leave copied bytes in registers until the program overwrites
- * them. These functions use registers that the driver clears. They are tested, not proved. */
+ * and memset: on a processor with AVX-512 the system's functions leave copied bytes in registers until the program
+ * overwrites them. These functions use registers that the driver clears. They are tested, not proved. */
 #include <stddef.h>
 #include <stdint.h>
 

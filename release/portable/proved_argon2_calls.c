@@ -103,8 +103,8 @@ static bool are_same(const proved_argon2_settings *one, const proved_argon2_sett
         && one->time_cost == other->time_cost && one->lanes == other->lanes && one->hash_length == other->hash_length;
 }
 
-/* Reads the job of an encoded hash, with its tag and its salt. The tag to be computed gets its place between them. The
- * hash is checked first, so that a rejected one costs no memory. */
+/* Reads the job of an encoded hash. The call's bytes then have its tag, room for the computed tag, and its salt. The
+ * encoded hash is checked first, so that a rejected one costs no memory. */
 static uint32_t read_text(struct call *call, STORED)
 {
     static const proved_argon2_limits none = {UINT32_MAX, UINT32_MAX, UINT32_MAX, UINT64_MAX};

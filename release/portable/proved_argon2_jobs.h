@@ -14,16 +14,16 @@
  * Lanes may be begun, and the lanes of one slice filled, in any order or at the same time. Begin all lanes before the
  * first slice, and complete each slice before the next. If each step returned PROVED_ARGON2_OK,
  * proved_argon2_job_finish writes the tag of RFC 9106, and proved_argon2_job_verify returns whether the hash is that
- * tag. The theorems EveryRunGivesTheTag and EveryRunGivesTheVerdict prove this for the blocks that the steps of each
- * slice leave. It is argued, not proved, that concurrent steps leave the same blocks. Nothing is claimed about the tag
- * after other steps, or over blocks that these steps did not write. proved_argon2_job_hash_over and
+ * tag. The theorems EveryRunGivesTheTag and EveryRunGivesTheVerdict prove this for any order of a slice's lanes. It
+ * is argued, not proved, that concurrent steps leave the same blocks. Nothing is claimed about the tag after any other
+ * sequence of steps, or if anything else wrote to the blocks. proved_argon2_job_hash_over and
  * proved_argon2_job_verify_over do all steps except the first in one call, lane by lane. proved_argon2_hash_over and
  * proved_argon2_verify_over do the first step too.
  *
  * Each call checks the numbers and lengths that it is passed, in this order, and returns
  *
  *     PROVED_ARGON2_MISALIGNED    if blocks are at an address that is not a multiple of 8
- *     PROVED_ARGON2_NO_JOB        if no accepted call has a job with these numbers
+ *     PROVED_ARGON2_NO_JOB        if no valid settings have a job with these numbers
  *     PROVED_ARGON2_NO_PLACE      if the job has no such pass, slice or lane
  *     PROVED_ARGON2_WRONG_BLOCKS  if the memory, a slice or a segment has more or fewer blocks
  *     PROVED_ARGON2_WRONG_LENGTH  if a tag has another length
@@ -87,7 +87,7 @@ uint32_t proved_argon2_job_read(
     uint8_t *salt, size_t salt_len,
     uint8_t *hash, size_t hash_len);
 
-/* Returns PROVED_ARGON2_OK only if an accepted call has a job with these numbers, otherwise PROVED_ARGON2_NO_JOB. */
+/* Returns PROVED_ARGON2_OK only if valid settings have a job with these numbers, otherwise PROVED_ARGON2_NO_JOB. */
 PROVED_ARGON2_CHECKED
 uint32_t proved_argon2_job_check(const proved_argon2_job *job);
 
@@ -156,7 +156,8 @@ uint32_t proved_argon2_hash_over(
     proved_argon2_block *blocks, size_t blocks_len,
     uint8_t *out, size_t out_len);
 
-/* Whether hash is the tag of hash_len bytes, computed in the caller's blocks. It also writes that tag. */
+/* Whether hash is the tag, computed in the caller's blocks; writes the tag too. tag_len must be hash_len;
+ * settings->hash_length is ignored. */
 PROVED_ARGON2_CHECKED
 uint32_t proved_argon2_verify_over(
     const void *pwd, size_t pwd_len,

@@ -22,7 +22,7 @@ typedef struct caller {
 /* The threads of a call. The thread that started them has the number 0. A null pointer is a team without threads. */
 typedef struct team team;
 
-/* (The names are long, since a program that links the archive sees them.) */
+/* (The long prefix avoids clashes of names in a program that links the archive.) */
 #pragma GCC visibility push(hidden)
 
 /* Saves what a call changes, and disables cancellation of the thread. The second call restores both. */
@@ -34,13 +34,13 @@ void *proved_driver_take_lines(size_t bytes);
 void proved_driver_free_lines(void *lines);
 
 /* Maps 2 MiB or more at a multiple of 2 MiB, or returns null. The memory is zero and in no core dump. It uses huge
- * pages where the system has them, except after the last whole one. */
+ * pages where the system has them, and small pages for the rest. */
 void *proved_driver_map_pages(size_t bytes);
 
 /* Returns pages to the system, which clears them. */
 void proved_driver_unmap_pages(void *pages, size_t bytes);
 
-/* Allocates some of these pages at once, where the system can. Returns false if it denies them. */
+/* Has the system allocate a part of these pages at once, if it can. Returns false if it denies them. */
 bool proved_driver_populate_pages(void *pages, size_t bytes);
 
 /* Reads random bytes from the system. Returns whether there were enough. */

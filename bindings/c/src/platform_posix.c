@@ -99,7 +99,7 @@ typedef struct member {
 } member;
 
 struct team {
-    pid_t *process;   /* who started them; in a forked child, which may have the same ID, the page is zero */
+    pid_t *process;   /* the ID of the process that started them; zero in a forked child, which may have the same ID */
     uint32_t threads; /* beside the caller's */
     void (*run)(void *arg, team *own, uint32_t number);
     void *arg;
@@ -119,8 +119,9 @@ static void *end_at_once(void *arg)
 }
 
 /* Whether a stack has room for the thread-local variables of the program: glibc takes them from a thread's own stack,
- * and pthread_create returns EINVAL where they do not fit. We also ask for a guard that is larger than the address
- * space, so that no thread ever starts. (musl rejects this guard. It allocates the variables beside the stack.) */
+ * and pthread_create returns EINVAL if they do not fit. The guard is larger than the address space, so that otherwise
+ * it returns another error, and no thread ever starts. (musl rejects this guard. It allocates the variables beside the
+ * stack.) */
 static bool has_room_for_variables(size_t stack)
 {
     pthread_t none;

@@ -116,7 +116,7 @@ static int newest_build(void)
 
 int proved_driver_choose_build(void)
 {
-    const char *const named = secure_getenv("PROVED_ARGON2_CPU"); /* that build, or none */
+    const char *const named = secure_getenv("PROVED_ARGON2_CPU"); /* the only build to use */
     int build = newest_build();
     while (named != NULL && named[0] != 0 && build != NO_BUILD && strcmp(named, builds[build].name) != 0) {
         build--;

@@ -7,10 +7,10 @@
 
 #define HUGE_PAGE ((size_t)2 << 20)
 #define WORK_FOR_THREADS (2 * HUGE_PAGE) /* bytes of blocks that are written */
-#define SHORT_PART 2048                  /* blocks: less work than a thread does before it is displaced */
-#define MOST_OPTIONS 4096                /* bytes: no version has more */
+#define SHORT_PART 2048                  /* blocks: less work than a thread does before it is preempted */
+#define MOST_OPTIONS 4096                /* bytes: no version has larger options */
 #define SLICES 4                         /* of the blocks, by RFC 9106, section 3.4 */
-#define STACK_BELOW 16384                /* bytes: a call needs two thirds */
+#define STACK_BELOW 16384                /* bytes: a call uses two thirds of them */
 
 /* Whether memory is mapped. Mapping less than a huge page takes longer than hashing in it. */
 static bool is_mapped(uint64_t bytes)
@@ -51,7 +51,7 @@ void proved_argon2_memory_free(void *memory, size_t memory_len)
 }
 
 /* Whether these are the options of this version, or those of a later one whose further fields are all zero, so that the
- * caller wants nothing that is unknown here. No version has shorter ones: half a field would be read. */
+ * caller wants nothing that is unknown here. No version has shorter options, and we would read past their end. */
 static bool are_known(const options *with)
 {
     const uint8_t *const bytes = (const uint8_t *)with;
@@ -69,7 +69,7 @@ static bool are_known(const options *with)
 uint32_t proved_driver_begin_call(struct call *call, const options *with, int is_missing)
 {
     *call = (struct call){.saved = proved_driver_keep_caller()};
-    /* (the loader binds this here, while registers hold no secret to spill) */
+    /* (so that the loader binds explicit_bzero now, while registers hold no secret to save) */
     proved_driver_overwrite(&call->job, sizeof call->job);
     if (with == NULL || is_missing) {
         return PROVED_ARGON2_NULL_POINTER;
@@ -88,8 +88,8 @@ uint32_t proved_driver_take_bytes(struct call *call, uint64_t len)
     return call->bytes == NULL ? PROVED_ARGON2_OUT_OF_MEMORY : PROVED_ARGON2_OK;
 }
 
-/* When the loader binds a name late, it may save registers that held blocks on the stack. This clears them; the proved
- * calls clear below themselves. */
+/* When the loader binds a name late, it may save registers on the stack, with parts of blocks. This clears them; the
+ * proved calls clear the stack below them. */
 static __attribute__((noinline)) void clear_stack(void)
 {
     unsigned char below[STACK_BELOW];

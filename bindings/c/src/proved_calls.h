@@ -1,6 +1,6 @@
-/* A table of the proved calls: the name, the parameters, whether a pointer is missing, and the arguments that are
- * passed on. proved_argon2_table.c makes each call of it in a build, and bindings/portable makes it in the module
- * that is translated to C. COMPUTES marks a call that writes H0 or takes blocks, which may be misaligned. It is
+/* A table of the proved calls: for each its name, its parameters, whether a pointer is missing, and the arguments that
+ * are passed on. proved_argon2_table.c makes each call in a build, and bindings/portable in the module that is
+ * translated to C. COMPUTES marks a call that writes H0, or that uses blocks, which may be misaligned. The table is
  * tested, not proved. */
 #define SLICE(type, name) type *name, size_t name##_len
 #define IS_MISALIGNED(name) (name##_len != 0 && (uintptr_t)name % _Alignof(proved_argon2_block) != 0)

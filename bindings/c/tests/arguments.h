@@ -10,8 +10,8 @@ enum { TAG = 32, TEXT = 128, LANES = 3, LENGTH = 2, SLICE = LANES * LENGTH, PASS
 
 static const proved_argon2_settings small = {PROVED_ARGON2_ID, PROVED_ARGON2_VERSION_13, 4 * SLICE, PASSES, LANES, TAG};
 
-/* The places of `arguments`, of which those from MEMORY on are written to. A memory is a pointer to one, which has its
- * length elsewhere. */
+/* The places of `arguments`. Calls write to those from MEMORY on. MEMORY is the address of a pointer to a buffer, whose
+ * length is at MEMORY_LEN. */
 /* clang-format off */
 enum place {
     END, OPTIONS, TEXT_READ, TEXT_ENDED, PWD, PASSWORD, SALT, SECRET, PEPPER, AD, SETTINGS, LIMITS, JOB, FIRST, SECOND,
@@ -44,7 +44,7 @@ static struct known {
     char text[TEXT];
 } known;
 
-/* What the calls write to, and more of it than they are to write. */
+/* What the calls write to, each with more bytes than they may write. */
 static struct written {
     void *memory;
     size_t memory_len;
@@ -133,14 +133,14 @@ static inline void give_to_write(void)
     give(TAG_WRITTEN, "tag", written.tag, TAG);
 }
 
-/* All that a call needs to be done. */
+/* Sets arguments that no call rejects. */
 static inline void give_what_fits(void)
 {
     give_to_read();
     give_to_write();
 }
 
-/* Spoils all that a call is given, but no pointer: it has more to refuse than a null one. */
+/* Makes all arguments invalid except pointers: a null pointer must still be the first error. */
 static inline void spoil(void)
 {
     options.size = 0;

@@ -3,7 +3,7 @@
  * one that the environment names; if none can run, each call must return an error. Each choice has its own process.
  *
  *     builds             the checks
- *     builds --name      says the number of the build that is taken
+ *     builds --name      prints the numbers of the chosen build and of the newest
  */
 #include "../src/builds.h"
 #include "checks.h"
@@ -101,11 +101,11 @@ int main(int count, char **words)
     check_in_process(is_taken, "x86-64-v2", second, "the build for x86-64-v2, where it is named");
     check_in_process(
         is_taken, "x86-64-v3", third, "the build for x86-64-v3, where it is named and the processor has it");
-    check_in_process(is_taken, "x86-64-v4", fourth, "so that for x86-64-v4");
-    check_in_process(is_taken, "x86-64-v1", NO_BUILD, "no build, where one is named that there is not");
-    check_in_process(is_taken, "x86-64-v2 ", NO_BUILD, "no build, where a name is not to the letter");
+    check_in_process(is_taken, "x86-64-v4", fourth, "likewise the build for x86-64-v4");
+    check_in_process(is_taken, "x86-64-v1", NO_BUILD, "no build, if the name is unknown");
+    check_in_process(is_taken, "x86-64-v2 ", NO_BUILD, "no build, if a space follows the name");
     check_in_process(is_taken_by_threads, NULL, newest, "threads that choose at the same time take one build");
-    check_in_process(is_taken_by_threads, "x86-64-v2", second, "so where one is named");
-    check_in_process(is_taken_by_threads, "none", NO_BUILD, "so where there is none");
+    check_in_process(is_taken_by_threads, "x86-64-v2", second, "threads take the named build");
+    check_in_process(is_taken_by_threads, "none", NO_BUILD, "threads take no unknown build");
     return finish(10);
 }

@@ -26,7 +26,7 @@ static inline uint32_t below(uint32_t end)
     return (uint32_t)(state % end);
 }
 
-/* A length of at least so many bytes: half of them short, and half around those at which code may change its way. */
+/* A random length of at least this: half of them are short, and half are near lengths at which code may branch. */
 static inline uint32_t length(uint32_t least)
 {
     static const uint32_t lengths[] = {8, 32, 64, 72, 128, 200, 300, 1000, 5000};
@@ -80,7 +80,7 @@ static inline uint32_t verify_encoded(const proved_argon2_options *with, const s
 }
 
 #if defined(__linux__) && !defined(__GLIBC__)
-/* What Debian's static libargon2 calls of the GNU C library, for programs with musl. */
+/* A function of the GNU C library that Debian's static libargon2 calls, for programs with musl. */
 int __sprintf_chk(char *text, int flag, size_t len, const char *format, ...)
 {
     va_list all;
@@ -124,7 +124,7 @@ static inline int backwards(void *pool, uint32_t tasks, void (*task)(void *, uin
     return 0;
 }
 
-/* A pool that refuses at one of its runs, or leaves out a task there. */
+/* Pools that return an error at one of their runs, or leave out a task. */
 static inline int fails_at(void *pool, uint32_t tasks, void (*task)(void *, uint32_t), void *arg)
 {
     int *const left = pool;
@@ -137,7 +137,7 @@ static inline int forgets_at(void *pool, uint32_t tasks, void (*task)(void *, ui
     return backwards(NULL, --*left == 0 ? tasks - 1 : tasks, task, arg);
 }
 
-/* Pools that run one task twice, or one that is not there, at one of their runs. */
+/* Pools that at one of their runs run a task twice, or a task that does not exist. */
 static inline int repeats_at(void *pool, uint32_t tasks, void (*task)(void *, uint32_t), void *arg)
 {
     int *const left = pool;

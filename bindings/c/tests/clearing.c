@@ -4,9 +4,9 @@
  * proved_clearing.c tests the proved calls. It is linked with --wrap to look at requests and deny them.
  *
  *     clearing            all checks
- *     clearing unwiped    what is left where nothing is cleared: each check of that has to find some
- *     clearing late       the same where a name is bound late behind a call (for a program that is linked so)
- *     clearing few        each call but those of a password alone, done once, where all else takes too long
+ *     clearing unwiped    the same with clearing turned off: each check must find something
+ *     clearing late       all calls, after which a name is bound late (the program must be linked for that)
+ *     clearing few        only calls that complete, without those of a password alone, since all take too long
  *     clearing unwiped few
  */
 #include "search.h"
@@ -34,7 +34,7 @@ struct trial {
     proved_argon2_options with;
     size_t call;
     bool is_right, is_short;    /* the hash that is verified, and the buffer that is written to */
-    uint32_t expected, or_else; /* what it may answer */
+    uint32_t expected, or_else; /* the codes that it may return */
 };
 
 static bool is_hashing(size_t name)
@@ -143,7 +143,7 @@ static struct trial trial_of(size_t name, size_t memory, uint32_t threads)
 static void check_cleared(size_t name, bool good, const char *where)
 {
     char said[96];
-    snprintf(said, sizeof said, "%s clears what it took, where %s", names[name], where);
+    snprintf(said, sizeof said, "%s clears what it used, if %s", names[name], where);
     check(good != no_wiping, said);
 }
 
@@ -160,7 +160,7 @@ static void check_done(size_t name)
         good = good && is_cleared(name, &trial);
         n += name < WITH ? 0 : 3; /* (which has no threads and no pool) */
     }
-    check_cleared(name, good, "it is done");
+    check_cleared(name, good, "it completes");
 }
 
 static void check_starts(size_t name)
@@ -172,7 +172,7 @@ static void check_starts(size_t name)
         const struct trial trial = trial_of(name, n / 4, 4);
         good = good && is_cleared(name, &trial);
     }
-    check_cleared(name, good, "a start is refused");
+    check_cleared(name, good, "a thread is denied");
 }
 
 /* Denies each request in turn, until none is left. */
@@ -264,7 +264,7 @@ static void check_arguments(size_t name)
         trial.expected = trial.or_else = PROVED_ARGON2_MISALIGNED;
         good = good && is_cleared(name, &trial);
     }
-    check_cleared(name, good, "its arguments are refused");
+    check_cleared(name, good, "its arguments are rejected");
 }
 
 /* Memory that is freed is cleared: here it contains what is sought, byte by byte. */
@@ -276,7 +276,7 @@ static void check_memory_free(size_t which)
     memset(found, 0, sizeof found);
     const bool is_made = proved_argon2_memory_new(&calls[which].settings, &memory, &len) == PROVED_ARGON2_OK;
     look_everywhere();
-    check(is_nothing_found("memory_new") && is_made, "memory_new leaves none of it");
+    check(is_nothing_found("memory_new") && is_made, "memory_new leaves no secrets");
     for (size_t i = 0; is_made && i < sought->count * PART; i++) {
         ((volatile uint8_t *)memory)[i] = sought->parts[i / PART].bytes[i % PART] ^ MASK;
     }
@@ -284,10 +284,10 @@ static void check_memory_free(size_t which)
     proved_argon2_memory_free(memory, len);
     look_at = NULL;
     look_everywhere();
-    check(is_nothing_found("memory_free") != no_wiping && is_made, "memory_free clears what stands there");
+    check(is_nothing_found("memory_free") != no_wiping && is_made, "memory_free clears the buffer");
 }
 
-/* ---- signals on a stack of their own, where the system puts what the registers hold */
+/* ---- signals on an alternate stack, where the system saves the registers */
 
 static uint8_t alternate[1 << 16];
 
@@ -310,7 +310,7 @@ static int signals(void *arg, uint64_t done, uint64_t all)
     return raise(SIGUSR1) != 0 || done > all;
 }
 
-/* A pool with a signal behind each of its tasks. */
+/* A pool that raises a signal after each of its tasks. */
 static int signals_behind(void *pool, uint32_t tasks, void (*task)(void *, uint32_t), void *arg)
 {
     (void)pool;
@@ -363,12 +363,12 @@ static void check_signals(size_t name)
     }
     is_over = true;
     good = __real_pthread_join(thread, NULL) == 0 && good;
-    check_cleared(name, good, "signals have a stack of their own");
+    check_cleared(name, good, "signals use an alternate stack");
 }
 
 /* ---- a name that is bound late behind a call */
 
-/* (whose name nothing else here calls) */
+/* (nothing else here calls getpgrp) */
 static void calls_late(void)
 {
     (void)!getpgrp();
@@ -391,7 +391,8 @@ static int is_bound_late(const void *unused)
     return found[OF_H0] + found[OF_SEED] + found[OF_FIRST] != 0 ? 0 : 1;
 }
 
-/* A call, what may be denied to it, and how it may end. Each has its own process, since a name is bound once. */
+/* Whether a call leaves nothing, although a name is bound late after it: in a process of its own, since a name is bound
+ * once. */
 static int ends_before_a_late_call(const void *arg)
 {
     const struct asked *const asked = arg;

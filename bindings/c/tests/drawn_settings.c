@@ -27,7 +27,7 @@ enum {
     LEAST_WORK_FOR_THREADS = 4 << 20
 };
 
-/* KiB: more than a machine has, of which no page is touched but the first ones of each lane. */
+/* KiB: more than a machine has. Only the first pages of each lane are touched. */
 #define LARGE ((uint32_t)2 << 20)
 #define MOST_LARGE ((uint32_t)32 << 20)
 
@@ -163,7 +163,7 @@ static bool is_as_counted(const struct call *call, enum way way, uint32_t thread
     return good;
 }
 
-/* How many bytes of the longest tag its memory still has when freed. */
+/* How many bytes of the longest tag are left in its memory when that is freed. */
 static size_t left;
 
 static void look_at_room(const void *block)
@@ -201,7 +201,7 @@ static void check_draw(uint32_t draw)
     check(good, name);
 }
 
-/* A call of Argon2i, which reads no block to choose another one, over memory that the system did not promise. */
+/* A call of Argon2i, which reads no block to choose another one, over memory that the system does not reserve. */
 static void check_large_draw(void *memory, uint32_t draw)
 {
     char name[128];

@@ -21,7 +21,7 @@ static atomic_uint hashed, listed;
 
 pid_t __wrap_getpid(void);
 
-/* The ID of the first process of every namespace. */
+/* Every process has the ID 1, like the first of a namespace. */
 pid_t __wrap_getpid(void)
 {
     return 1;
@@ -105,7 +105,7 @@ static int fork_in_the_middle(void *child, uint64_t done, uint64_t all)
 }
 
 /* Whether a child forked by the callback goes on alone, although it has the parent's process ID, and the parent with
- * two threads; parts are long, so neither takes the other's. */
+ * two threads. Parts are long, so neither thread takes the other's. */
 static bool both_go_on(void)
 {
     pid_t child = -1;

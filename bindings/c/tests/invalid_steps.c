@@ -2,7 +2,7 @@
  * Wrong arguments of a job's steps: each number, length and address, also with others that are wrong. Each returns its
  * error, in the order of the header, and nothing is written.
  *
- *     invalid_steps few    one in 17 of the combinations that a segment is filled with, where all take too long
+ *     invalid_steps few    only every 17th combination of the arguments of job_fill, since all take too long
  */
 #include "arguments.h"
 
@@ -126,7 +126,7 @@ static void check_over(void)
         good &= answers_over(job_hash_over, has_blocks, has_length, ITS(out, TAG));
         good &= answers_over(hash_over, has_blocks, has_length, ITS(out, TAG));
         good &= answers_over(job_verify_over, has_blocks, has_length && has_hash, ITS(tag, TAG));
-        /* (its hash has any length, of which each tag is another) */
+        /* (verify_over takes a hash of any length, and then computes another tag) */
         good &= !has_hash || answers_over(verify_over, has_blocks, has_length, ITS(tag, TAG));
     }
     check(good, "hash_over, verify_over and those of a job with lengths");

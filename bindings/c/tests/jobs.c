@@ -91,14 +91,14 @@ static void check_runs(const proved_argon2_job *job)
     for (with.threads = 1; with.threads <= 4; with.threads++) {
         memset(tag, 0, sizeof tag);
         check_code(proved_argon2_job_run(&with, job, tag, 32), PROVED_ARGON2_OK, "its run");
-        check(is_hex(tag, 32, tag_of_rfc), "gives its tag");
-        check_code(proved_argon2_job_run_verify(&with, job, tag, 32), PROVED_ARGON2_OK, "and its verdict");
+        check(is_hex(tag, 32, tag_of_rfc), "run: the tag");
+        check_code(proved_argon2_job_run_verify(&with, job, tag, 32), PROVED_ARGON2_OK, "run: the verdict");
         tag[31] ^= 1;
-        check_code(proved_argon2_job_run_verify(&with, job, tag, 32), PROVED_ARGON2_MISMATCH, "on another hash too");
+        check_code(proved_argon2_job_run_verify(&with, job, tag, 32), PROVED_ARGON2_MISMATCH, "run: another hash");
         memset(tag, 9, sizeof tag);
-        check_code(proved_argon2_job_run(&with, job, tag, 31), PROVED_ARGON2_WRONG_LENGTH, "not into 31 bytes");
-        check_code(proved_argon2_job_run_verify(&with, job, tag, 31), PROVED_ARGON2_WRONG_LENGTH, "nor on 31");
-        check(tag[0] == 9 && tag[31] == 9 && memcmp(job, &same, sizeof same) == 0, "nothing is written, and it stays");
+        check_code(proved_argon2_job_run(&with, job, tag, 31), PROVED_ARGON2_WRONG_LENGTH, "run: write 31 bytes");
+        check_code(proved_argon2_job_run_verify(&with, job, tag, 31), PROVED_ARGON2_WRONG_LENGTH, "run: verify 31");
+        check(tag[0] == 9 && tag[31] == 9 && memcmp(job, &same, sizeof same) == 0, "tag and job are unchanged");
     }
 }
 
@@ -113,7 +113,7 @@ static void check_tags(void)
     proved_argon2_job none = job;
     none.lanes = 0;
     check_code(proved_argon2_job_check(&job), PROVED_ARGON2_OK, "it is a job");
-    check_code(proved_argon2_job_check(&none), PROVED_ARGON2_NO_JOB, "one without lanes is none");
+    check_code(proved_argon2_job_check(&none), PROVED_ARGON2_NO_JOB, "a job without lanes is invalid");
     for (int falls = 0; falls < 2; falls++) {
         check(take_steps(&job, falls), "its steps");
         check_code(proved_argon2_job_finish(&job, last, 8, tag, 32), PROVED_ARGON2_OK, "its end");

@@ -10,7 +10,7 @@ enum { TAG = 32, SMALL = 256, LARGE = 3072, HUGE_PAGE = 2 << 20 };
 /* What a call may write to, which an error leaves unchanged. */
 static uint8_t buffer[256], before[256];
 
-/* The call, of so many KiB by 4 lanes, its tag, its text and its job. */
+/* The call, with 4 lanes and some memory cost; its tag, encoded hash and job. */
 static struct call call;
 static uint8_t tag[TAG];
 static char text[256], written[256];
@@ -59,7 +59,7 @@ static void make(uint32_t mem_cost)
         "secret", "data", 8, 8, 6, 4};
     const bool good = peer(&call, tag) && hash_encoded(&alone, &call, text, sizeof text) == PROVED_ARGON2_OK
         && proved_argon2_job_make(INPUTS, &job) == PROVED_ARGON2_OK;
-    check(good, "what is asked");
+    check(good, "the inputs are valid");
 }
 
 /* Whether a call succeeds: it wrote the tag or the encoded hash. */
@@ -106,8 +106,8 @@ static void check_call(const struct row *row, uint32_t threads)
     check(good && requests == expected && most_held >= blocks && most_held <= most, name);
 }
 
-/* A call whose mapping is denied pages at one populating. If the system has no pages, the call returns the memory error
- * and writes nothing; if it cannot populate, pages are allocated when touched. */
+/* A call that is denied pages once, when it populates them. If the system has no pages, the call returns the memory
+ * error and writes nothing; if it cannot populate, pages are allocated when touched. */
 static bool ends_well_unpopulated(const struct row *row, size_t number, int how)
 {
     fill_bytes(buffer, sizeof buffer, 7);
@@ -123,7 +123,7 @@ static bool ends_well_unpopulated(const struct row *row, size_t number, int how)
     return is_errno && held == 0 && (how == 0 || how == EINVAL ? is_value(code) : is_short);
 }
 
-/* All pages are asked for once, as huge ones, and each of the parts may be refused. */
+/* All pages are requested once, as huge pages, and any part of them may be denied. */
 static void check_populating(const struct row *row, uint32_t threads)
 {
     const size_t blocks = (size_t)call.settings.mem_cost * 1024;
@@ -136,11 +136,11 @@ static void check_populating(const struct row *row, uint32_t threads)
             && ends_well_unpopulated(row, number, EINVAL);
     }
     snprintf(
-        name, sizeof name, "%s by %u threads has its pages at once, or is short of them", row->name, (unsigned)threads);
+        name, sizeof name, "%s by %u threads populates its pages, or fails without them", row->name, (unsigned)threads);
     check(good, name);
 }
 
-/* (what the driver makes of an answer of the system, explore_schedules.c shows of each call) */
+/* (explore_schedules.c shows for each call what the driver does after the system's answer) */
 static void check_populatings(void)
 {
     static const struct row row = ROW(hash_raw_with, 0, true);
@@ -149,7 +149,7 @@ static void check_populatings(void)
     check_populating(&row, 4);
 }
 
-/* ---- what the system has to have of memory for it */
+/* ---- how much memory the system needs for a hash */
 
 /* This process's resident bytes, as the system counts them page by page. */
 static size_t resident(void)
@@ -172,7 +172,7 @@ static int measures(void *arg, uint64_t done, uint64_t all)
     return done > all;
 }
 
-/* Whether a hash of so many KiB has no more bytes than these, and a little beside them for a thread. */
+/* Whether a hash takes no more memory than its memory cost, and a little more for each thread. */
 static bool takes_no_more(uint32_t mem_cost, uint32_t threads)
 {
     enum { BESIDE = 64 * 1024, OF_A_THREAD = 48 * 1024 };
@@ -278,7 +278,7 @@ static void check_without_memory(void)
     check(requests == 0 && little == PROVED_ARGON2_LANES_TOO_FEW && shorter == PROVED_ARGON2_WRONG_LENGTH
             && full == PROVED_ARGON2_WRONG_LENGTH && text_of_none == PROVED_ARGON2_TIME_TOO_SMALL
             && costly == PROVED_ARGON2_TOO_COSTLY && costly_with == costly && no_memory == little && run == shorter,
-        "what is refused asks for nothing");
+        "rejected calls allocate nothing");
     const uint32_t fault = proved_argon2_read(no_hash, strlen(no_hash), &stored);
     const uint32_t read = proved_argon2_read(right, strlen(right), &stored);
     const uint32_t bytes = proved_argon2_read_bytes(right, strlen(right), salt, 8, hash, 32);
@@ -286,7 +286,7 @@ static void check_without_memory(void)
     check(requests == 0 && fault == PROVED_ARGON2_DECODING_FAIL && read == PROVED_ARGON2_OK && bytes == PROVED_ARGON2_OK
             && rehash == PROVED_ARGON2_NEEDS_REHASH && proved_argon2_message(0) != NULL
             && proved_argon2_encoded_len(&call.settings, 8) > 0 && proved_argon2_memory_len(&call.settings) > 0,
-        "nor do the calls that hash and verify nothing");
+        "nor do calls that neither hash nor verify");
 }
 
 /* With the word `few`, resident memory is not checked: an emulator's pages would count. */

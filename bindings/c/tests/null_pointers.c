@@ -2,7 +2,7 @@
  * Null pointers, call by call: each pointer of the header and of the calls with options is null in turn. The call
  * returns that error before all others, and writes nothing; with length 0 it passes no bytes. test_library.py compares
  * these names with the pointers that the headers declare. Then, without a build for the processor, each call returns
- * that error, and writes nothing. It is linked with --wrap=getrandom, so that a salt is the same each time.
+ * OLD_PROCESSOR, and writes nothing. It is linked with --wrap=getrandom, so that a salt is the same each time.
  */
 #include "../src/builds.h"
 #include "arguments.h"
@@ -11,7 +11,7 @@
 
 ssize_t __wrap_getrandom(void *buffer, size_t length, unsigned flags);
 
-/* There are no random bytes where all is spoilt. */
+/* Fails if all other arguments are invalid. */
 ssize_t __wrap_getrandom(void *buffer, size_t length, unsigned flags)
 {
     fill_bytes(buffer, length, 0x80);
@@ -126,7 +126,7 @@ static bool tells_what_fits(const struct row *row)
     give_what_fits();
     spoil();
     const uint32_t spoilt = row->call();
-    /* (a text of inputs with a secret is another password's, and these three never match) */
+    /* (the encoded hash has associated data, which these three calls cannot pass: they never match) */
     const bool is_other = row->call == password_verify || row->call == password_verify_with
         || row->call == password_verify_unknown;
     const bool is_done = whole == (is_other ? PROVED_ARGON2_MISMATCH : PROVED_ARGON2_OK);
@@ -163,7 +163,7 @@ static bool takes_none(const struct row *row, enum place place)
 static void check_pointers(const struct row *row)
 {
     char name[96];
-    snprintf(name, sizeof name, "%s is done, or refused for something else", row->name);
+    snprintf(name, sizeof name, "%s succeeds, or returns another error", row->name);
     check(tells_what_fits(row), name);
     for (size_t i = 0; row->pointers[i] != END; i++) {
         const enum place place = row->pointers[i];
@@ -176,7 +176,7 @@ static void check_pointers(const struct row *row)
 }
 
 #ifdef __x86_64__ /* (where there are builds to choose from) */
-/* Whether a call is refused for the processor, or gives zero, where it has no number for it. */
+/* Whether a call returns PROVED_ARGON2_OLD_PROCESSOR or, if it returns a length, 0. */
 static bool refuses_the_processor(const struct row *row)
 {
     const bool gives_a_length = row->call == encoded_len || row->call == memory_len;
@@ -196,7 +196,7 @@ static void check_without_a_build(void)
     }
     check(proved_argon2_library_version() == 0 && proved_argon2_default_limits().mem_cost == 0
             && proved_argon2_owasp2().version == 0 && proved_argon2_rfc9106().version == 0,
-        "what gives numbers gives zeros on an older processor");
+        "calls that return numbers return zeros on an older processor");
 }
 #endif
 

@@ -170,7 +170,7 @@ static void check_limits_of_inputs(void)
     check_code(code, PROVED_ARGON2_OUTPUT_TOO_LONG, "a hash one byte too long");
 }
 
-/* ---- lengths that no 32 bits hold */
+/* ---- lengths of more than 32 bits */
 
 static const proved_argon2_options one = PROVED_ARGON2_OPTIONS;
 static const uint8_t pwd[32] = "password", salt[32] = "somesalt";

@@ -1,4 +1,4 @@
-/* A password in one call each. It is linked with --wrap=getrandom, so that the salt is known. */
+/* Hashing and verifying in one call each. It is linked with --wrap=getrandom, so that the salt is known. */
 #include "checks.h"
 
 #include <errno.h>

@@ -1,8 +1,8 @@
 #!/usr/bin/env python3
-"""Plants a leak into functions of an object that a library is made of, so that a check can be seen to refuse it. A
-function goes on to give what it gives.
+"""Plants a leak into functions of an object of the library, to show that a check detects it. The functions still return
+what they returned.
 
-    plant_leak.py OBJECT LEAK TO        or of an archive: in each of its objects that is proved
+    plant_leak.py OBJECT LEAK TO        OBJECT may be an archive: then into each proved object of it
 
 A leak is machine code that is run before or behind the function's own. It is put behind that code, in the function's
 section, and the function's first instructions become a jump to it.
@@ -21,16 +21,16 @@ from machines import machines  # noqa: E402
 FACE, DRIVER = TOP / 'bindings/c', TOP / 'bindings/c/src'
 FLAGS = [*'-std=gnu11 -D_GNU_SOURCE= -O2 -Wall -Wextra -Werror -pthread -I'.split(), FACE / 'include', '-I', DRIVER]
 COMPRESSION = 'argon2_blocks::block::kernel::fill_words'
-# The functions, and the code around what they were. The numbers of bytes say where C passes an argument.
+# By leak: the functions, and the code that runs before them. C passes arguments in the registers that it names.
 LEAKS = {
     # what overwrites bytes, words or the stack returns at once
     'nothing_is_overwritten': dict.fromkeys((
         "argon2_blocks::blake2b::wipe::<i8,20'core::clone::U8Clone{}>",
         "argon2_blocks::blake2b::wipe::<i64,21'core::clone::U64Clone{}>",
         'argon2_fill::stack_wiping::wipe_stack'), 'ret'),
-    # for ARM64: divides where a word of the first block that is read is odd, which is the first argument
+    # for ARM64: divides if a word of the first argument, which is a block that is read, is odd
     'branch_to_a_division': {COMPRESSION: 'ldr x9, [x0]; tbz x9, 0, 1f; udiv x9, x0, x1; 1:'},
-    # each block that is written adds one to a number where drawn_settings.c has it
+    # each block that is written adds one to the counter of drawn_settings.c
     'blocks_are_counted': {COMPRESSION: 'push %rax; mov $0x10000000, %eax; lock incq (%rax); pop %rax'},
     # the same, and no block is written, so that a call over far more memory than there is takes seconds
     'blocks_are_only_counted': {COMPRESSION: 'mov $0x10000000, %eax; lock incq (%rax); ret'},
@@ -38,8 +38,8 @@ LEAKS = {
     'branch_on_a_word': {COMPRESSION: 'push %rdx; call original; pop %rdx; testb $1, (%rdx); je 1f; 1: ret'},
     # the blocks that are read are the first two arguments, of which one is a reference's, at a multiple of 64
     'branch_on_a_reference': {COMPRESSION: 'mov %rdi, %rax; xor %rsi, %rax; test $0x400, %eax; je original'},
-    # the tag is the fourth argument, and its length is the fifth; any bytes are a table, and what is looked up is kept,
-    # or valgrind would leave the look-up out
+    # the tag is the fourth argument, and its length is the fifth; any bytes serve as a table, and the result is stored,
+    # since valgrind would otherwise leave the look-up out
     'table_of_letters': {'proved_argon2_encode': """
         test %r8, %r8; je original
         movzbl (%rcx), %eax; lea rest(%rip), %r10; movzbl (%r10, %rax), %eax; movb %al, -8(%rsp)"""},
@@ -58,9 +58,9 @@ LEAKS = {
 }
 # What a machine's tools begin with, its jump, and how many bytes that has.
 X86, ARM64 = ('', 'jmp', 5), ('aarch64-linux-gnu-', 'b', 4)
-# What may be moved from the front of a function: it knows no place.
+# What may be moved from the front of a function: it does not depend on its address.
 MOVABLE = re.compile(r'(push|sub|mov|vmovdqu32|xor|movabs|cmp|test|st[pr]|ldp)[bwlq]?\b(?!.*%rip)')
-# The section of a function with code behind it, to which its front jumps, and where the front is.
+# The section of a function, whose front jumps to the planted code behind it, where the old front is too.
 BEHIND = """
     {jump} planted
     .org {moved}, 0x90

@@ -1,11 +1,11 @@
 /*
  * Which secrets the proved calls leave in caller-provided memory, which the caller clears, and what they overwrite: see
- * SECURITY.md. Each call runs in a child, which has none of it before. clearing.c tests the driver's calls, and
+ * SECURITY.md. Each call runs in a child, which has no secrets before. clearing.c tests the driver's calls, and
  * test_library.py compares the calls that are named in both with those of the headers. It is linked with --wrap for
  * what it looks at.
  *
  *     proved_clearing            all checks
- *     proved_clearing unwiped    over a library that overwrites nothing, each check of what is overwritten finds some
+ *     proved_clearing unwiped    with a library that overwrites nothing: each check of overwriting must find something
  */
 #include "search.h"
 
@@ -102,7 +102,7 @@ static uint32_t does_job_verify_over(void)
     return code ? code : proved_argon2_job_verify_over(&job, blocks, 2048, zeros, TAG, out, TAG);
 }
 
-/* What is overwritten after its last use. First blocks stay in memory that is begun, and are overwritten later. */
+/* What is overwritten after its last use. First blocks stay in memory after job_begin, and are overwritten later. */
 enum { SEEDS = 1 << OF_SEED | 1 << OF_LAST, BUFFERS = SEEDS | 1 << OF_FIRST };
 
 /* clang-format off */
@@ -201,7 +201,7 @@ static void check_row(const struct row *row)
     char name[96];
     const int left = status_of(what_is_left, row);
     const bool is_none = row->leaves == KINDS, is_over = left >= 0 && left < NO_ANSWER;
-    snprintf(name, sizeof name, "%s leaves %s", row->name, is_none ? "none of it" : of_kinds[row->leaves]);
+    snprintf(name, sizeof name, "%s leaves %s", row->name, is_none ? "no secrets" : of_kinds[row->leaves]);
     check(is_over && (left & LEAVES) == (is_none ? 0 : LEAVES), name);
     if (row->overwrites != 0) {
         snprintf(name, sizeof name, "%s overwrites what it should", row->name);

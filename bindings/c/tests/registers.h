@@ -4,7 +4,7 @@
 
 #include <stdint.h>
 
-/* What all of them held that the processor has, when NOTE_ALL was met. */
+/* The contents of all that the processor has, at the last NOTE_ALL. */
 static uint8_t registers[32][64];
 
 /* clang-format off */
@@ -28,8 +28,8 @@ static uint8_t registers[32][64];
 #define NOTE_ALL() if (__builtin_cpu_supports("avx512f")) { EACH_OF_32(NOTE); } \
     else if (__builtin_cpu_supports("avx")) { EACH_OF_16(NOTE_LOWER); } else { EACH_OF_16(NOTE_LOWEST); }
 #define REGISTERS (__builtin_cpu_supports("avx512f") ? "zmm0 to zmm31" \
-    : __builtin_cpu_supports("avx") ? "ymm0 to ymm15, and zmm0 to zmm31 not, which this processor has not" \
-    : "xmm0 to xmm15, and ymm0 to ymm15 and zmm0 to zmm31 not, which this processor has not")
+    : __builtin_cpu_supports("avx") ? "ymm0 to ymm15; this processor has no zmm0 to zmm31" \
+    : "xmm0 to xmm15; this processor has no ymm0 to ymm15 and no zmm0 to zmm31")
 /* clang-format on */
 #endif
 

@@ -137,7 +137,7 @@ static void check_refused(proved_argon2_settings settings, uint32_t number, cons
         bytes_of("password"), 8, bytes_of("somesalt"), 8, NULL, 0, NULL, 0, &settings, written, sizeof written);
     check(raw == number && text == number && is_untouched(out, sizeof out) && is_untouched(written, sizeof written),
         name);
-    check_code(proved_argon2_check(&settings, 8, 8, 0, 0), number, "the same, by a check");
+    check_code(proved_argon2_check(&settings, 8, 8, 0, 0), number, "proved_argon2_check returns the same");
 }
 
 static void check_errors(void)
@@ -194,7 +194,7 @@ static void check_checking(void)
         check_encoded("$argon2id$v=19$m=8,t=1,p=1$c29tZXNhbA$AAAAAA", 0, 2, &stored), 5, "a text of a short salt");
     check_code(
         check_encoded("$argon2id$v=19$m=8,t=1,p=1$c29tZXNhbHQ$AAAA", 0, 2, &stored), 1, "a text of a short hash");
-    check(is_untouched(&stored, sizeof stored), "nothing is written of them");
+    check(is_untouched(&stored, sizeof stored), "nothing is written for these");
     const uint32_t code = check_encoded(of_16_lanes, most, 2, &stored);
     check(code == 0 && memcmp(&stored.settings, &settings, sizeof settings) == 0 && stored.salt_length == 8,
         "a text that can be verified");
@@ -202,7 +202,7 @@ static void check_checking(void)
 
 static const proved_argon2_settings small = {PROVED_ARGON2_ID, PROVED_ARGON2_VERSION_13, 8, 1, 1, 32};
 
-/* A text of seven different numbers, of which no hash is made. */
+/* An encoded hash with seven different numbers, with which no hash can be made. */
 static const char text[] = "$argon2i$v=19$m=4294967295,t=0,p=6$c29tZXNhbHQ$AAAAAAAAAAAAAAAA";
 static const proved_argon2_settings settings_of_text = {
     PROVED_ARGON2_I,
@@ -218,7 +218,7 @@ static uint32_t needs_rehash(const proved_argon2_settings *settings)
     return proved_argon2_needs_rehash(text, strlen(text), settings);
 }
 
-/* ---- texts that are looked at */
+/* ---- encoded hashes that are only decoded */
 
 static void check_reading(void)
 {
@@ -296,7 +296,7 @@ static void check_bytes(void)
     check(is_hex(hash, 32, "0d640df58d78766c08c037a34a8b53c9d01ef0452d75b65eb52520e96b01e659") && hash[32] == 7,
         "the hash of a text");
     code = proved_argon2_read_bytes(loose, strlen(loose), NULL, 0, hash, 3);
-    check(code == PROVED_ARGON2_OK && is_hex(hash, 4, "000000f5"), "no salt, and a hash of which none is made");
+    check(code == PROVED_ARGON2_OK && is_hex(hash, 4, "000000f5"), "no salt, and a hash that is too short");
 }
 
 static uint32_t read_within(uint32_t mem_cost, uint32_t time_cost, uint32_t lanes, proved_argon2_stored *stored)

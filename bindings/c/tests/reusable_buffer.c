@@ -121,14 +121,14 @@ int main(void)
     check_code(
         proved_argon2_memory_new(&of_mapping, &with.memory, &with.memory_len), PROVED_ARGON2_OK, "a memory to keep");
     check_calls(&of_mapping, "calls with its settings ask for no blocks");
-    check_calls(&of_malloc, "nor do calls that want less");
+    check_calls(&of_malloc, "nor do calls that need less");
     held = with.memory_len;
     proved_argon2_memory_free(with.memory, with.memory_len);
-    check(!has_flag(with.memory, " "), "it is there no more");
+    check(!has_flag(with.memory, " "), "it is unmapped");
     held = 0;
     proved_argon2_memory_free(NULL, 0);
     proved_argon2_memory_free(NULL, with.memory_len);
-    check(held == 0, "nothing is given back where there is none");
+    check(held == 0, "freeing null frees nothing");
     check_settings();
     return finish(25);
 }

@@ -18,7 +18,7 @@ enum kind { OF_H0, OF_SEED, OF_FIRST, OF_CHAIN, OF_BLOCKS, OF_LAST, OF_TAG, OF_I
 static const char *const of_kinds[KINDS] = {"H0", "what a first block is hashed from", "first blocks of the first pass",
     "the last hashes of a first block's chain", "blocks", "the combined last blocks", "the tag", "the inputs"};
 
-/* The calls: in mapped memory, in less, as password_hash and password_verify_unknown compute, and with many lanes.
+/* The calls: in mapped memory, in the heap, as password_hash and password_verify_unknown compute, and with many lanes.
  * Their inputs are in read-only memory, so the search does not find them. */
 enum { MAPPED, SMALL, ALONE, UNKNOWN, MANY, CALLS };
 
@@ -39,7 +39,7 @@ static const struct call calls[CALLS] = {
 #define BYTES(call, what) (call).what, (call).what##_len
 #define INPUTS_OF(call) BYTES(call, pwd), BYTES(call, salt), BYTES(call, secret), BYTES(call, ad), &(call).settings
 
-/* A call's tag, its text, a text of zeros, and what is looked for, each byte with MASK so that it is not found here. */
+/* A call's tag, its encoded hash, one of zeros, and the pieces, XORed with MASK, so that they are not found here. */
 typedef struct known {
     uint8_t tag[TAG];
     char text[TEXT], other[TEXT];
@@ -61,8 +61,8 @@ static inline void keep(known *to, enum kind kind, const void *bytes)
     to->parts[to->count++].kind = kind;
 }
 
-/* The last two hashes of the chains that the first two blocks of the last lane are: of the last but one, its first
- * half. */
+/* For the last lane's two first blocks, which are chains of hashes: part of the last hash and of the one before, whose
+ * first half the block has. */
 static inline void keep_chains(const proved_argon2_block *first, known *to)
 {
     for (size_t column = 0; column < 2; column++) {
@@ -233,7 +233,7 @@ static inline void look_everywhere(void)
 /* What a program calls after a call, if anything: bound late, it makes the loader save the registers. */
 static void (*calls_behind)(void);
 
-/* What other registers held behind a call that it may change. */
+/* The contents, after a call, of other registers that it may change. */
 static uint64_t general[9];
 
 /* clang-format off */
@@ -263,7 +263,7 @@ __attribute__((noinline)) static uint32_t far_below(uint32_t (*does)(const void 
     return code + space[0];
 }
 
-/* Whether none is found; the first few that are, are told. */
+/* Whether nothing is found. Prints the first few findings. */
 static inline bool is_nothing_found(const char *after)
 {
     static int reported;
@@ -277,7 +277,7 @@ static inline bool is_nothing_found(const char *after)
     return is_nothing;
 }
 
-/* Whether a child ends with the status of a function, which may leave there what it likes. */
+/* Runs a function in a child, where it may leave anything, and returns its status. */
 static inline int status_of(int (*work)(const void *), const void *arg)
 {
     int status = 0;
@@ -289,7 +289,7 @@ static inline int status_of(int (*work)(const void *), const void *arg)
     return child > 0 && waitpid(child, &status, 0) == child && WIFEXITED(status) ? WEXITSTATUS(status) : -1;
 }
 
-/* Learns what to look for, and that it finds none of that where no call was made. */
+/* Finds out what to look for, and checks that nothing is found before any call. */
 static inline void check_nothing_before(void)
 {
     pthread_attr_t attributes;
@@ -299,8 +299,8 @@ static inline void check_nothing_before(void)
     check(know_all(), "what to look for");
     seek(MAPPED);
     look_everywhere();
-    check(is_nothing_found("nobody"), "nothing is there before");
-    printf("of the registers are looked at: %s\n", REGISTERS);
+    check(is_nothing_found("nobody"), "nothing is found before a call");
+    printf("searched registers: %s\n", REGISTERS);
 }
 
 #endif

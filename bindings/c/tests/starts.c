@@ -5,9 +5,9 @@
  * It is linked with --wrap for what it counts and refuses.
  *
  *     starts              all checks
- *     starts few          all but those of cancelling, which musl does in other places
- *     starts variables    in a program with VARIABLES bytes of its own variables of a thread, which a system may take
- *                         of the stacks: each thread is started, and has as much stack as in other programs
+ *     starts few          all checks except cancelling, which musl does in other places
+ *     starts variables    in a program with VARIABLES bytes of thread-local variables, which a system may put into the
+ *                         stacks: each thread is started, and has as much stack as in other programs
  */
 #include "calls.h"
 #include "system.h"
@@ -26,7 +26,7 @@ static bool make(uint32_t mem_cost, uint32_t passes)
     return peer(&call, expected);
 }
 
-/* The signals that the caller blocks, of which one is blocked before each call. */
+/* Whether the caller still blocks only SIGUSR2, as before each call. */
 static bool has_its_signals(void)
 {
     sigset_t blocked;
@@ -64,7 +64,7 @@ static void check_errors(void)
     for (size_t start = 1; start <= BESIDE + 1; start++) {
         good &= starts_as_many(BESIDE, start);
     }
-    check(good, "a hash goes on where starts are refused from one on");
+    check(good, "a hash completes if threads are denied from one on");
 }
 
 /* Too little memory or work for threads: only the caller's thread works. */
@@ -137,7 +137,7 @@ static void *computes(void *arg)
     return NULL;
 }
 
-/* It also returns its result, unless the thread can be cancelled anywhere: then that happens before the return. */
+/* The call completes, and returns unless cancellation is asynchronous: then the thread ends before the return. */
 static bool goes_on_to_its_end(int type, uint32_t threads)
 {
     static cancelled one;
@@ -180,7 +180,7 @@ static void check_state(void)
         "whether the thread can be cancelled is as it was");
 }
 
-/* ---- a program with variables of a thread */
+/* ---- a program with thread-local variables */
 
 #ifndef VARIABLES
 #define VARIABLES 2
@@ -195,7 +195,7 @@ static void check_variables(void)
     refuse_nothing();
     const bool is_right = make(4096, 1) && hash_raw(&with, &call, tag) == PROVED_ARGON2_OK
         && memcmp(tag, expected, 32) == 0;
-    check(is_right && granted == BESIDE && variables[0] == 0, "threads of a program with many variables of a thread");
+    check(is_right && granted == BESIDE && variables[0] == 0, "threads of a program with many thread-local variables");
 }
 
 int main(int argc, char **argv)
@@ -214,7 +214,7 @@ int main(int argc, char **argv)
     if (argc > 1 && strcmp(argv[1], "few") == 0) {
         return finish(3);
     }
-    check(make(LARGE, PASSES), "what is asked");
+    check(make(LARGE, PASSES), "libargon2 computes the tag");
     check_cancelling(PTHREAD_CANCEL_DEFERRED, "a call goes on where its thread is cancelled");
     check_cancelling(PTHREAD_CANCEL_ASYNCHRONOUS, "a call goes on where its thread is cancelled at once");
     check_state();

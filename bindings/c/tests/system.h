@@ -38,8 +38,7 @@ void __wrap_explicit_bzero(void *bytes, size_t len);
  * often one was started while none ran. */
 static atomic_size_t starts, granted, joins, running, most_running, bursts;
 
-/* Starts at which some signal would have been the new thread's, and those that asked for another stack than a small
- * one. */
+/* Threads that were started while some signal was not blocked, and starts that requested a stack that is not small. */
 static atomic_size_t open_to_signals, large_stacks;
 
 /* Which starts are refused, counted from 1; 0 for none. */
@@ -49,8 +48,8 @@ static size_t first_refused, last_refused;
 static atomic_size_t requests;
 static size_t refused_request;
 
-/* How often pages were asked for at once, for how many bytes in all, and which of these is refused, counted from 1, and
- * how; and for how many bytes huge pages were. */
+/* Requests to populate pages, the sum of their bytes, and the bytes for which huge pages were requested; which request
+ * to populate is denied, counted from 1, and with which errno. */
 static atomic_size_t populatings, populated, in_huge_pages;
 static size_t refused_populating;
 static int refused_how;
@@ -62,7 +61,7 @@ static atomic_size_t held, most_held;
 static void *last_mapped;
 static size_t last_mapped_len;
 
-/* Whether nothing is cleared, and what looks at bytes before they are given back. */
+/* Whether clearing is turned off, and what looks at bytes before they are freed. */
 static bool no_wiping;
 static void (*look_at)(const void *block);
 
@@ -88,7 +87,7 @@ static inline void refuse_request(size_t number)
     refused_request = number;
 }
 
-/* Whether the thread that asks has blocked the signals that come from outside: what it starts has them blocked too. */
+/* Whether the calling thread blocks the signals that come from outside: threads that it starts block them too. */
 static inline bool has_blocked_signals(void)
 {
     static const int from_outside[] = {SIGHUP, SIGINT, SIGTERM, SIGALRM, SIGCHLD, SIGUSR1, SIGUSR2, SIGPIPE};
@@ -159,7 +158,7 @@ static inline void *hold_block(void *block)
     return block;
 }
 
-/* What a request that is refused answers. */
+/* The result of a denied request. */
 static inline void *nothing(void)
 {
     errno = ENOMEM;

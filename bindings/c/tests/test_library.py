@@ -1,6 +1,6 @@
-"""What programs in C alone do not see of the library: the header in each language, results that are ignored, the calls
-and pointers that the programs name beside those of the headers, the archive's symbols, which build a processor gets,
-and the C of docs/C.md. CTest runs it (CMakeLists.txt), with the folder of its programs in TESTS and the library in
+"""Tests of the library that the programs in C do not make: the header in each language, warnings of ignored results,
+whether the programs name each call and pointer of the headers, the archive's symbols, which build a processor gets, and
+the C of docs/C.md. CTest runs it (CMakeLists.txt), with the folder of its programs in TESTS and the library in
 ARCHIVE.
 """
 import os
@@ -40,14 +40,14 @@ int main()
         && proved_argon2_encoded_len(&settings, 16) == 96 && settings.mem_cost == 7168 ? 0 : 1;
 }
 """
-# What the driver needs of the system: there is no heap of the proved code's, and no secret goes through a function that
-# copies.
+# What the driver needs from the system. The proved code uses no heap, and no secret passes through a function of the
+# system that copies.
 OF_SYSTEM = set("""_GLOBAL_OFFSET_TABLE_ __errno_location __stack_chk_fail aligned_alloc calloc explicit_bzero free
     getpid getrandom madvise malloc mmap munmap pthread_attr_destroy pthread_attr_init pthread_attr_setdetachstate
     pthread_attr_setguardsize pthread_attr_setstacksize pthread_create pthread_join pthread_setcancelstate
     pthread_sigmask secure_getenv sem_destroy sem_init sem_post sem_wait sigfillset strcmp strlen sysconf""".split())
-# What x86-64-v2 and x86-64-v3 ask for, but what an older qemu or glibc needs itself, as the driver and as qemu name it,
-# and the processors of qemu that have it; and what x86-64-v4 does.
+# The features that x86-64-v2 and x86-64-v3 need, except what an older qemu or glibc needs itself: the driver's names
+# and qemu's. Then those that x86-64-v4 needs, and qemu's processors that lack one.
 OF_V2 = dict(CX16='cx16', SSE4_2='sse4.2', POPCNT='popcnt', LAHF_LM='lahf-lm')
 OF_V3 = dict(FMA='fma', MOVBE='movbe', bit_OSXSAVE='xsave', AVX='avx', F16C='f16c', BMI1='bmi1', AVX2='avx2',
              BMI2='bmi2', ABM='abm')
@@ -120,7 +120,7 @@ def test_looks_at_the_result(compiler, call, tmp_path):
 
 
 def test_declares_each_number_as_checked():
-    """But the version, of which nothing is to be checked."""
+    """Except the version, whose result need not be checked."""
     lines = HEADERS.splitlines()
     unchecked = [line for before, line in zip(lines, lines[1:])
                  if re.match(r'(static inline )?uint(32|64)_t proved_argon2_', line)
@@ -202,7 +202,7 @@ def objects(tmp_path):
 
 
 def test_table_leads_to_each_call_of_each_build(objects):
-    """One that it does not lead to would compute well, and slowly, by an older one."""
+    """A call that it does not lead to would run an older build: right, but slowly."""
     proved = {words[2] for words in symbols('-g', '--defined-only', *objects.glob('proved_argon2_x86-64-v?.o'))
               if len(words) == 3}
     assert proved == {words[1] for words in symbols('-u', objects / 'proved_argon2_table.o')
@@ -216,7 +216,7 @@ def build_by(cpu, program):
 
 
 def planted(objects, old, new):
-    """builds.c over a choice in which a text has another in its place."""
+    """Compiles builds.c with a choice in which one text is replaced by another."""
     text = (DRIVER / 'proved_argon2_builds.c').read_text(encoding='utf-8')
     changed, program = re.sub(old, new, text), objects / 'planted'
     assert changed != text
@@ -254,7 +254,7 @@ def test_finds_what_is_not_asked_for(feature, objects):
 
 @needs_qemu
 def test_takes_an_older_build_without_wide_registers(objects):
-    """(where the system keeps the halves of them alone)"""
+    """(the system saves only their lower halves)"""
     assert build_by('Haswell', planted(objects, re.escape(SAVED[:-2]) + '.*', 'saved = 3;')) == '2 of 3'
 
 
@@ -281,7 +281,7 @@ def test_finds_a_jump_to_a_newer_build(objects):
       for feature in OF_V4),
     *((re.escape(SAVED[:-2]) + '.*', f'saved = {saved};') for saved in ('0xC6', '0xA6', '0x66'))])
 def test_asks_for_all_of_v4(old, new, objects):
-    """The build for x86-64-v3 on a processor that has all, where one thing lacks: qemu has no such processor."""
+    """Chooses x86-64-v3 if one feature is missing, which is simulated here: qemu has no processor with AVX-512."""
     if output_of(TESTS / 'builds', '--name').strip() != '4 of 4':
         pytest.skip('this processor has no AVX-512')
     assert output_of(planted(objects, old, new), '--name').strip() == '3 of 4'
@@ -289,7 +289,7 @@ def test_asks_for_all_of_v4(old, new, objects):
 
 @pytest.mark.skipif(os.geteuid() != 0, reason='that takes root')
 def test_environment_chooses_nothing_with_other_rights(tmp_path):
-    """A program may gain rights by who owns it."""
+    """A setuid program has the rights of its owner."""
     owned, named = tmp_path / 'owned', {**os.environ, 'PROVED_ARGON2_CPU': 'x86-64-v1'}
     shutil.copy(TESTS / 'builds', owned)
     shutil.chown(owned, 'nobody')

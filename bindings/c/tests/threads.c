@@ -3,7 +3,7 @@
  * pool, options and limits. starts.c tests threads, memory.c memory, and clearing.c what is left in the process.
  *
  *     threads          all checks
- *     threads few      those that a tool looks at: a few tags, and eight hashes at once over threads that stay
+ *     threads few      for valgrind's tools: a few tags, and eight hashes at once over pools whose threads stay
  */
 #include "calls.h"
 #include "system.h"
@@ -253,7 +253,7 @@ static void check_options(void)
     with.size = 0;
     check_refused(&with, PROVED_ARGON2_WRONG_LENGTH, "options of no size");
     with.size = SIZE_MAX;
-    check_refused(&with, PROVED_ARGON2_WRONG_LENGTH, "options of any size");
+    check_refused(&with, PROVED_ARGON2_WRONG_LENGTH, "options of the largest size");
     struct longer {
         proved_argon2_options known;
         uint64_t later;

@@ -1,4 +1,4 @@
-/* The calls of the library for Java. Only the package's own class Native calls them, and passes no null but for a
+/* The calls of the library for Java. Only the package's own class Native calls them, and passes null only for a
  * buffer. Arrays are copied, since the garbage collector may move them while a hash is computed, and copies are
  * cleared. This is tested, not proved. */
 #include <jni.h>

@@ -54,7 +54,7 @@ static struct {
     size_t idle;       /* those that wait for a run */
 } pool = {.lock = PTHREAD_MUTEX_INITIALIZER, .is_over = PTHREAD_COND_INITIALIZER, .end = &pool.first};
 
-/* Reads so many arguments that are arrays, and returns what is behind them. */
+/* Reads this many arguments, which are arrays, and returns the argument after them. */
 static napi_value take(napi_env env, napi_callback_info info, part *parts, size_t count)
 {
     size_t passed = MOST_PARTS;
@@ -252,8 +252,8 @@ static void await_end(run *self)
     pthread_mutex_unlock(&pool.lock);
 }
 
-/* What depends on the arrays of a thread of JavaScript ends before it. A queued run does not begin, since it would wait
- * for others that end later. */
+/* Ends a run before the JavaScript thread whose arrays it uses. A queued run does not begin, since it would wait for
+ * runs that end later. */
 static void abandon(void *arg)
 {
     run *const self = arg;
@@ -269,7 +269,8 @@ static void abandon(void *arg)
     await_end(self);
 }
 
-/* In the thread of JavaScript: passes on how many slices are filled or, at the end, 0, and the code. */
+/* In the JavaScript thread: passes the listener the counts of filled slices and of all or, at the end, 0 and the
+ * code. */
 static void hear(napi_env env, napi_value listener, void *context, void *data)
 {
     run *const self = context;
@@ -303,8 +304,8 @@ static int start(void)
     return denied;
 }
 
-/* Queues a run. If more runs are queued than threads wait for one, it starts a thread. If that is denied, the threads
- * that there are compute the run in its turn. Returns whether there is one. */
+/* Queues a run. If more runs are queued than threads wait, it starts a thread. If that is denied, the existing threads
+ * compute the run in its turn. Returns whether there is a thread. */
 static bool submit(run *self)
 {
     pthread_mutex_lock(&pool.lock);
@@ -358,7 +359,7 @@ static napi_value verify(napi_env env, napi_callback_info info)
     return begin(env, info, &verifying);
 }
 
-/* Has idle threads wait by the clock that nobody sets. */
+/* Idle threads wait by the monotonic clock, which nobody sets. */
 static void make_pool(void)
 {
     pthread_condattr_t monotonic;

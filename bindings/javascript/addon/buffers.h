@@ -1,7 +1,7 @@
 /* Buffers for blocks, which runs use one after another, because the kernel takes long to map, clear and unmap the
  * memory of each hash if several are computed at the same time. A run has a buffer of its own while it computes, so
- * there are at most as many as runs at the same time. The library overwrites a buffer at the end of each call. One of
- * which no run has needed more than half for some seconds is freed. It is tested and not proved. */
+ * there are at most as many as runs at the same time. The library overwrites a buffer at the end of each call. A buffer
+ * is freed if no run has needed more than half of it for some seconds. This is tested and not proved. */
 #ifndef ADDON_BUFFERS_H
 #define ADDON_BUFFERS_H
 
@@ -21,7 +21,7 @@ typedef struct buffer {
     struct buffer *next;
 } buffer;
 
-/* Those that no run has, the one that was used last in front. */
+/* Buffers that no run uses; the last one used is first. */
 static struct {
     pthread_mutex_t lock;
     buffer *first;
@@ -92,7 +92,7 @@ static buffer *take_buffer(const proved_argon2_settings *settings)
     return make_buffer(settings);
 }
 
-/* Whether no run has needed a buffer for too long. */
+/* Whether it is too long since a run needed this buffer. */
 static bool is_unused(const buffer *self, time_t now)
 {
     return now > self->needed + KEPT_SECONDS;
@@ -132,7 +132,7 @@ static time_t next_end_of_buffer(void)
     return end;
 }
 
-/* Frees the buffers that no run has needed for too long. */
+/* Frees the kept buffers that are unused (is_unused). */
 static void free_unused_buffers(void)
 {
     const time_t now = seconds_now();

@@ -1,5 +1,5 @@
-/* What the addon calls of Node-API, as Node declares it (node_api.h) and keeps it: so it is built without Node. Numbers
- * of its enumerations are plain ones here. */
+/* The part of Node-API that the addon calls, as Node's node_api.h declares it. Node keeps it stable, so the addon is
+ * built without Node. Enumerations are plain numbers here. */
 #ifndef ADDON_NODE_API_H
 #define ADDON_NODE_API_H
 

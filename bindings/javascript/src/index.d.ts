@@ -1,6 +1,6 @@
 /** Argon2 password hashing (RFC 9106) by proved code: an addon in Node, and a WebAssembly module elsewhere. */
 
-/** Argon2d: each block's reference depends on other blocks, and so on the password (RFC 9106, section 1). */
+/** Argon2d: which block a block refers to depends on other blocks, thus on the password (RFC 9106, section 1). */
 export const argon2d: 0;
 /** Argon2i: the references depend on no block. */
 export const argon2i: 1;
@@ -30,7 +30,7 @@ export interface Settings {
     hashLength?: number;
 }
 
-/** What stops a call: an `AbortSignal`. The types need neither a page's library nor Node's. */
+/** What stops a call: an `AbortSignal`. So this file needs neither the DOM's types nor Node's. */
 export interface StopSignal {
     /** Whether it was aborted. */
     readonly aborted: boolean;
@@ -51,8 +51,8 @@ export interface Running {
     /** `false` computes by WebAssembly in the caller's thread, one call after another. After each slice other tasks of
      * the thread run. */
     worker?: boolean;
-    /** The maximum number of workers or threads, at least 1. Without it, a lane has one each, if there are enough
-     * processors. */
+    /** The maximum number of workers or threads, at least 1; to verify, at most 16. Without it, one for each lane, if
+     * there are enough processors. */
     threads?: number;
     /** The line in which the call waits for its turn. */
     line?: Line;
@@ -60,8 +60,8 @@ export interface Running {
 
 /** The options of a `Line`: its limits, and the settings of a hash, from which the default limits are computed. */
 export interface LineOptions extends Settings {
-    /** How many calls compute at the same time. Without it, as many as fit into the processors, with one lane each, and
-     * into a quarter of the memory. */
+    /** How many calls compute at the same time. Without it, the processors divided by the lanes, or fewer, so that they
+     * fit into a quarter of the memory. */
     concurrency?: number;
     /** How many more calls may wait. Without it, 16 times as many as may compute. */
     waiting?: number;
@@ -78,7 +78,7 @@ export class Line {
     readonly concurrency: number;
     /** How many more may wait. */
     readonly waiting: number;
-    /** Calls a function in its turn, and counts it until it has ended. It may make calls without a line. */
+    /** Calls a function in its turn, and counts it until it has ended. It makes its calls without the option `line`. */
     run<T>(call: () => T | PromiseLike<T>, options?: { signal?: StopSignal }): Promise<T>;
 }
 
@@ -186,8 +186,9 @@ export class PepperedHasher {
     /** Hashes a password with the newest pepper. */
     hash(password: string | Bytes, options?: PepperOptions): Promise<Peppered>;
     /**
-     * As the function of this name, with the pepper of an ID. A hash of another pepper than the newest is hashed anew
-     * with the newest. For an unknown ID, and for null without `acceptUnpeppered`, it rejects with `UnknownPepper`.
+     * As the function of this name, with the pepper of an ID. If the hash has an older pepper, the password is hashed
+     * anew with the newest. For an unknown ID, and for null without `acceptUnpeppered`, it rejects with
+     * `UnknownPepper`.
      */
     verifyAndUpdate(
         keyId: string | null, encoded: string, password: string | Bytes, options?: PepperOptions,
@@ -215,7 +216,7 @@ export interface Tuning {
 }
 
 /**
- * The strongest settings whose hash takes at most so many milliseconds here: as much memory as there is time for, and
+ * Finds the strongest settings whose hash takes at most `milliseconds` here: as much memory as there is time for, and
  * then as many passes, within the default limits. It rejects with `RangeError` if the least settings for passwords (7
  * MiB, 5 passes, or their work) take longer.
  */
@@ -227,7 +228,7 @@ export function needsRehash(encoded: string, options?: Settings): Promise<boolea
 /** Settings with no field left out. */
 export type Preset = Readonly<Required<Settings>>;
 
-/** Recommended settings. OWASP calls its five equal in strength; RFC 9106, 4, recommends its own with four lanes. */
+/** Recommended settings, with one lane. OWASP calls its five equally strong; RFC 9106, 4, has four lanes in its two. */
 export const presets: {
     // presets, by .ci/pages/presets
     /** OWASP's first recommendation: 46 MiB, 1 pass. */

@@ -77,7 +77,7 @@ export function numberOf(name, value, most = MAX_NUMBER) {
     return value;
 }
 
-/** An option of a type. `null` is a value, and mostly of a wrong type. */
+/** An option, whose type is checked. `null` counts as a value: mostly one of a wrong type. */
 export function optionOf(name, value, type) {
     if (value !== undefined && typeof value !== type) {
         throw typeError(name, `a ${type}`);

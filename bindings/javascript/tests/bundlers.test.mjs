@@ -37,7 +37,7 @@ const REQUIRED = programOf("const { hash, verify } = require('proved-argon2');")
 const ROLLED = INLINE.replace('proved-argon2/inline', join(sources, 'inline.js'));
 const WEBPACK = 'webpack ./app.mjs --mode=production --output-path=. --output-filename=bundle';
 
-/** What a command makes of a program, and where that runs: a file in Node, or bundle.js in pages by a policy. */
+/** A name, a program, the command that bundles it, and where it runs: a file in Node, or in pages with this policy. */
 const MADE = [
     ['esbuild for Node, esm', INLINE, 'esbuild app.mjs --bundle --platform=node --format=esm --outfile=a.mjs', 'a.mjs'],
     ['esbuild for Node, cjs', INLINE, 'esbuild app.mjs --bundle --platform=node --format=cjs --outfile=a.cjs', 'a.cjs'],
@@ -60,7 +60,7 @@ function folderWith(program, name = 'app.mjs') {
     return folder;
 }
 
-// (where Debian's programs find what they need, by a Node that is not Debian's too)
+// (so that Debian's programs find what they need, even in a Node that is not Debian's)
 const NODE_OPTIONS = `--require=${join(import.meta.dirname, 'debian.cjs')}`;
 const env = { ...process.env, NODE_PATH: '/usr/share/nodejs', NODE_OPTIONS };
 const run = (folder, command, ...words) => promisify(execFile)(command, words, { cwd: folder, timeout: 600000, env });

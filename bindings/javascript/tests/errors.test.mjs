@@ -20,7 +20,7 @@ const stringOfLength = (length) => {
     return beginning + 'A'.repeat(length - beginning.length - end.length) + end;
 };
 
-/** What a call is rejected by: the options of a hash. */
+/** The error of a hash with these options. */
 const HASHING = [
     ['SaltTooShort', { salt: new Uint8Array(7) }],
     ['OutputTooShort', { hashLength: 3 }],
@@ -58,7 +58,7 @@ const HASHING = [
     ['TypeError', new Uint8Array()],
 ];
 
-/** .. a string and the options of a verification. */
+/** The error of a verification with this string and these options. */
 const VERIFYING = [
     ['DecodingFail', ''],
     ['DecodingFail', '$2b$12$R9h/cIPz0gi.URNNX3kh2OPST9/PgBkqquzi.Ss7KIUgO2t0jWMUW'],

@@ -230,13 +230,13 @@ async function fits(browser) {
 
 /** Each test of a page: what is expected, and the function that tries it. */
 const TESTS = [
-    ['300 calls of several kinds take one memory a worker at most, and an idle browser none', takesLittleMemory],
+    ['300 calls of several kinds take at most one memory a worker, and an idle browser takes none', takesLittleMemory],
     ['the outside hashes', outsideHashes],
     ['800 random hashes of libargon2, by 1 to 8 workers', randomHashes],
     ['errors have their names', namedErrors],
     ['a visitor hashes and verifies', visitorHashes],
-    ['what is shown is told to whoever hears the page', isHeard],
-    ['a visitor cancels, and the page is alive meanwhile', visitorCancels],
+    ['assistive technology gets what is shown', isHeard],
+    ['a visitor cancels, and the page responds meanwhile', visitorCancels],
     ['the page fits on a screen and on a phone', fits],
 ];
 

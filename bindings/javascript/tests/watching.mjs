@@ -89,7 +89,7 @@ function tellWhatIsHeld() {
     channel.unref();
 }
 
-/** As now and then in Firefox: a memory that goes by a port is lost, and a `messageerror` tells of it. */
+/** As sometimes in Firefox, a memory that is passed by a port is lost, and a `messageerror` event reports it. */
 function loseMemories() {
     const { get, set } = Object.getOwnPropertyDescriptor(MessagePort.prototype, 'onmessage');
     Object.defineProperty(MessagePort.prototype, 'onmessage', {

@@ -1,4 +1,4 @@
-"""What Debian's argon2-cffi answers over the libargon2.so.1 of this process, a line each: its errors but those for
+"""Prints what Debian's argon2-cffi returns with the libargon2.so.1 of this process, a line each: its errors, except for
 versions that do not exist, and its verdicts.
 
     cffi.py errors

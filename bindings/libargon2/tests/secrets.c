@@ -75,7 +75,7 @@ static uint32_t does_row(const void *row)
     return (uint32_t)((const struct row *)row)->does();
 }
 
-/* (a call of which nothing else here has the name) */
+/* (nothing else here calls getpgrp) */
 static void calls_late(void)
 {
     (void)!getpgrp();

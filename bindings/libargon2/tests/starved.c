@@ -1,8 +1,8 @@
 /* Calls of libargon2.so.1 in a process that is denied something, selected by a number from 0 on:
  *
- *     starved threads NUMBER     all threads but the first NUMBER of each call: the tag is the same
- *     starved memory NUMBER      address space: each call returns the error for it, and leaves what it was given
- *     starved texts NUMBER       nothing, but for an encoded hash of 64 lanes at most 16 threads may run
+ *     starved threads NUMBER     all threads except the first NUMBER of each call: the tag is the same
+ *     starved memory NUMBER      address space: each call returns the memory error, and leaves its inputs unchanged
+ *     starved texts NUMBER       nothing: to verify an encoded hash of 64 lanes, a call uses at most 16 threads
  *
  * Each repeats the calls, and the process must not grow. Prints what happened; the status is 0 if all is right. */
 #define _GNU_SOURCE

@@ -20,7 +20,7 @@ from proved_argon2.exceptions import HashingError, TooCostlyError, VerifyMismatc
 from proved_argon2.low_level import error_to_str, hash_secret, hash_secret_raw, verify_secret
 
 NO_NUMBERS = (True, 64.0, "64", None)
-# All but the first three have 64 more, so that the lowest bits are acceptable settings.
+# The lowest 32 bits of all except the first three are 64, which is an acceptable setting.
 TOO_MUCH = (-1, 1 << 32, 1 << 64, 64 - (1 << 32), (1 << 32) + 64, (1 << 64) + 64, 64 - (1 << 64), (1 << 1000) + 64)
 SETTINGS = {"time_cost": 1, "memory_cost": 1024, "parallelism": 1, "hash_len": 16}
 LARGE = {"time_cost": DEFAULT_LIMITS.time_cost + 1, "memory_cost": 1360, "parallelism": DEFAULT_LIMITS.parallelism + 1}

@@ -126,9 +126,8 @@ errors! {
         /// No key of the [`Peppers`](crate::Peppers) has this ID, or a hash without a pepper is not accepted.
         UnknownPepper, "There is no pepper with this ID";
 
-        /// The keys that were given to [`Peppers::new`](crate::Peppers::new) are none, one is empty, or two have the
-        /// same ID.
-        InvalidPeppers, "The peppers are none, one is empty, or two have the same ID";
+        /// [`Peppers::new`](crate::Peppers::new) got no keys, an empty key, or two keys with the same ID.
+        InvalidPeppers, "There are no peppers, one is empty, or two have the same ID";
     }
 }
 

@@ -56,7 +56,7 @@ pub struct Stored {
     pub salt_length: u32,
 }
 
-/// `proved_argon2_options` of the header. The threads are the call's own.
+/// `proved_argon2_options` of the header. This crate passes no thread pool.
 #[repr(C)]
 pub struct Options {
     // options, by .ci/pages/presets
@@ -200,7 +200,7 @@ extern "C" fn report(arg: *mut c_void, done: u64, all: u64) -> c_int {
     }
 }
 
-/// A call of the library with options: of each of these slices a pointer and a length are passed, and then the rest.
+/// Calls the library with options, then a pointer and a length for each of these slices, and then the rest.
 macro_rules! call {
     ($name:ident, $options:expr, [$($bytes:expr),*] $(, $rest:expr)*) => {{
         let options = $options;
@@ -231,7 +231,7 @@ pub fn hash_encoded(pwd: &[u8], salt: &[u8], config: &Config<'_>, extras: Extras
     call!(proved_argon2_hash_encoded_with, options, [pwd, salt, config.secret, config.ad], &settings, to, length)
 }
 
-/// Compares a hash with the tag of its length.
+/// Compares a hash with the tag, computed in its length.
 pub fn verify_raw(pwd: &[u8], salt: &[u8], hash: &[u8], config: &Config<'_>, extras: Extras<'_, '_>) -> u32 {
     let (options, settings) = (Options::by(config.workers(), extras), Settings::of(config));
     let (with, length) = (hash.as_ptr(), hash.len());

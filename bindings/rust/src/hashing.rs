@@ -31,7 +31,7 @@ pub fn encoded_len(
 ///
 /// # Errors
 ///
-/// The first parameter error of the settings, or [`Error::OutOfMemory`](crate::Error::OutOfMemory).
+/// The first error of the settings or the inputs' lengths, or [`Error::OutOfMemory`](crate::Error::OutOfMemory).
 ///
 /// # Examples
 ///
@@ -50,7 +50,7 @@ pub fn hash_encoded(pwd: &[u8], salt: &[u8], config: &Config<'_>) -> Result<Stri
 ///
 /// # Errors
 ///
-/// The first parameter error of the settings, or [`Error::OutOfMemory`](crate::Error::OutOfMemory).
+/// The first error of the settings or the inputs' lengths, or [`Error::OutOfMemory`](crate::Error::OutOfMemory).
 ///
 /// # Examples
 ///

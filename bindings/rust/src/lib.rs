@@ -33,9 +33,9 @@
 //!
 //! # What is proved
 //!
-//! The calls of the library that compute Argon2, and that encode and decode its hashes, are proved. A
-//! driver in C provides memory and threads for them, and this crate calls the driver. Both are tested,
-//! not proved. The only `unsafe` code of the crate is in the module `ffi`.
+//! The library's calls that compute Argon2, and that encode and decode its hashes, are proved, except for the
+//! compression function for AVX-512 and ARM64. A driver in C provides memory and threads for them, and this crate calls
+//! it. Both are tested, not proved. The only `unsafe` code is in the module `ffi`.
 //!
 //! # Threads
 //!

@@ -20,8 +20,7 @@ pub struct Limits {
 }
 
 impl Limits {
-    /// The default limits, each raised to that of these settings if that is higher, so that a hash with these settings
-    /// is within the limits.
+    /// The default limits, raised where these settings are higher, so that a hash with these settings is within them.
     ///
     /// # Examples
     ///

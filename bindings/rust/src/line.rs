@@ -108,8 +108,8 @@ impl Line {
         Line::keeping(places, waiting, IDLE)
     }
 
-    /// A line with as many places as hashes of these settings fit into the processors (one per lane) and into this many
-    /// bytes of memory. 16 times as many callers may wait.
+    /// A line with one place for each hash with these settings that fits into the processors (one per lane) and into
+    /// this many bytes of memory. 16 times as many callers may wait.
     #[must_use]
     pub fn of(config: &Config<'_>, memory: usize) -> Line {
         let processors = thread::available_parallelism().map_or(1, usize::from);
@@ -263,12 +263,12 @@ impl Future for Enter {
                 if let Some(entry) = state.queue.iter_mut().find(|entry| entry.0 == ticket) {
                     entry.1 = context.waker().clone();
                     return Poll::Pending;
-                } // otherwise who left a place gave it to this caller
+                } // otherwise a caller who left has given its place to this one
             }
             None if state.free > 0 => state.free -= 1,
             None if state.queue.len() >= line.waiting => return Poll::Ready(Err(Busy)),
             None => {
-                // (if the waker panics while it is cloned, no ticket is left that nobody would give a place to)
+                // (if cloning the waker panics, no ticket stays in the queue without a caller)
                 let ticket = state.next_ticket;
                 state.queue.push_back((ticket, context.waker().clone()));
                 state.next_ticket += 1;

@@ -40,7 +40,7 @@ impl Memory {
         self.buffer.length()
     }
 
-    /// What a call returns that computes in this buffer. If the buffer is too small, it is replaced by one that fits
+    /// Makes a call in this buffer, and returns its number. If the buffer is too small, it is replaced by one that fits
     /// the settings, and the call is made again. Only a call whose settings are accepted says that a buffer is too
     /// small.
     pub(crate) fn call(
@@ -84,7 +84,7 @@ pub fn hash_raw_in(memory: &mut Memory, pwd: &[u8], salt: &[u8], config: &Config
 
 /// [`verify_encoded_ext`](crate::verify_encoded_ext) in a reusable buffer.
 ///
-/// The encoded hash names how much memory that is: use [`verify_encoded_within_in`] for one that others may have
+/// The buffer grows to what the encoded hash names: use [`verify_encoded_within_in`] for a hash that others may have
 /// written.
 pub fn verify_encoded_in(memory: &mut Memory, encoded: &str, pwd: &[u8], secret: &[u8], ad: &[u8]) -> Result<bool> {
     Run::new().over(memory).verify_encoded(encoded, pwd, secret, ad)

@@ -131,8 +131,8 @@ impl<'a> Run<'a> {
         self.call(settings, |extras| ffi::verify_encoded(encoded, pwd, secret, ad, limits, extras))
     }
 
-    /// What a call returns that is passed the buffer and the callback. The settings are computed
-    /// only if the buffer is too small.
+    /// Makes a call with the buffer and the callback, and returns its number. The settings are computed only if the
+    /// buffer is too small.
     fn call(&mut self, settings: impl FnOnce() -> Settings, mut call: impl FnMut(Extras<'_, 'a>) -> u32) -> u32 {
         let Run { memory, is_memory_optional, progress } = self;
         let mut number = OUT_OF_MEMORY;

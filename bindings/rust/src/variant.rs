@@ -4,17 +4,17 @@ use std::fmt;
 const VARIANTS: [Variant; 3] = [Variant::Argon2d, Variant::Argon2i, Variant::Argon2id];
 const VERSIONS: [Version; 2] = [Version::Version10, Version::Version13];
 
-/// The variants of Argon2 (RFC 9106, 1). They differ in what determines which earlier block a block refers to.
+/// The variants of Argon2 (RFC 9106, 1). They differ in how a block chooses the earlier block that it refers to.
 #[derive(Clone, Copy, Debug, Default, Eq, PartialEq, PartialOrd, Ord)]
 pub enum Variant {
-    /// The blocks determine it, and so the password.
+    /// By the contents of blocks, and so by the password.
     Argon2d = 0,
 
-    /// Only the block's position determines it: which memory is read says nothing about the password.
+    /// Only by the block's position: which memory is read says nothing about the password.
     #[default]
     Argon2i = 1,
 
-    /// The position determines it in the first half of the first pass, and then the blocks. Choose this variant.
+    /// By the position in the first half of the first pass, and then by the contents. Choose this variant.
     Argon2id = 2,
 }
 

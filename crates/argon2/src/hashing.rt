@@ -47,8 +47,8 @@ pub fn hash_raw<R: Threads + Wait + Sync>(
 /// On a parameter error the buffer is unchanged. Otherwise it holds the blocks of this computation
 /// until it is wiped or dropped. After a resource error it may have no lanes, but a buffer that
 /// fitted the call loses its blocks only if workers filled it.
-// Its stack frame holds H0. It is never inlined, so that a call without a caller's buffer can
-// overwrite that.
+// Its stack frame holds H0. It is never inlined, so that a call that allocated its own buffer can
+// overwrite that frame.
 #[inline(never)]
 pub fn hash_raw_in<'a, R: Threads + Wait + Sync>(
     rt: &R,
@@ -88,8 +88,8 @@ pub fn hash_raw_sequential(
 
 /// The tag of a password, computed by a single-threaded call in a reusable buffer of the caller:
 /// see `hash_raw_in`.
-// Its stack frame holds H0. It is never inlined, so that a call without a caller's buffer can
-// overwrite that.
+// Its stack frame holds H0. It is never inlined, so that a call that allocated its own buffer can
+// overwrite that frame.
 #[inline(never)]
 pub fn hash_raw_in_sequential<'a>(
     alloc: Global,
@@ -128,8 +128,8 @@ pub fn hash_encoded<R: Threads + Wait + Sync>(
 }
 
 /// The encoded hash of a password, computed in a reusable buffer of the caller: see `hash_raw_in`.
-// Its stack frame holds H0. It is never inlined, so that a call without a caller's buffer can
-// overwrite that.
+// Its stack frame holds H0. It is never inlined, so that a call that allocated its own buffer can
+// overwrite that frame.
 #[inline(never)]
 pub fn hash_encoded_in<'a, R: Threads + Wait + Sync>(
     rt: &R,
@@ -173,8 +173,8 @@ pub fn hash_encoded_sequential(
 
 /// The encoded hash of a password, computed by a single-threaded call in a reusable buffer of the
 /// caller: see `hash_raw_in`.
-// Its stack frame holds H0. It is never inlined, so that a call without a caller's buffer can
-// overwrite that.
+// Its stack frame holds H0. It is never inlined, so that a call that allocated its own buffer can
+// overwrite that frame.
 #[inline(never)]
 pub fn hash_encoded_in_sequential<'a>(
     alloc: Global,

@@ -131,8 +131,8 @@ pub fn verify_encoded_within<R: Threads + Wait + Sync>(
         (IsVerdict pwd.now d.salt d.hash (decoded_config d secret.entry ad.entry)
         (nat_lt 1 d.parallelism)) result }
 {
-    // The call without limits decodes the string again, so that it needs no other form and no other
-    // proof.
+    // `verify_encoded_ext` decodes the string again. This avoids a second form of that call, with a
+    // second proof.
     let costly = is_too_costly(encoded, limits)?;
     if costly {
         return Err(Unverified::TooCostly);

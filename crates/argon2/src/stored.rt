@@ -109,7 +109,8 @@ pub fn config_of_numbers<'a>(numbers: &Numbers, secret: &'a [u8], ad: &'a [u8]) 
     ensures { (d : Spelled) → numbers.now ≡ numbers_of d
         → IsConfigOf d secret.entry.now ad.entry.now result }
 {
-    // No accepted hash is longer. Any other may be here, and its length would be cut by the cast.
+    // No accepted hash is longer than MAX_HASH_LENGTH. A rejected one may be, and the cast would
+    // cut its length.
     let hash_length = if numbers.hash_len < MAX_HASH_LENGTH as u64 {
         numbers.hash_len as u32
     } else {

@@ -7,7 +7,7 @@ ghost use Rattle.argon2.specs.Theorems.KnownAnswers.{DrawsWord, FirstPass, First
 ghost use Rattle.argon2.specs.Theorems.Texts.{HashedTextVerifies, HeadHasItems, IsJoinedItems, SpellsExample, SpellsOne, SpellsOwnValue, WritesExample};
 
 /// The blocks that the contracts speak of meet the recurrence at every place (RFC 9106, 3.2), and
-/// nothing else does.
+/// no other blocks do.
 pub fn recurrence_law()
     ensures meets { MeetsRecurrence }
     ensures only { IsOnlySolution }
@@ -23,10 +23,10 @@ pub fn any_order()
 {}
 
 /// The theorems about tags, verdicts and encoded hashes. The tag does not depend on the thread mode. A
-/// verdict goes by the hash's own length. A string decodes to at most one value, and an encoded
-/// value decodes to itself. If the settings are accepted, a tag and an encoded hash verify with the
-/// same inputs, unless memory or a worker is denied. The layout of an encoded hash is stated once
-/// more by its `$`, and by two whole examples.
+/// verdict depends on the hash's own length, not on `hash_length`. A string decodes to at most one
+/// value, and an encoded value decodes to itself. If the settings are accepted, a tag and an encoded
+/// hash verify with the same inputs, unless memory or a worker is denied. The layout of an encoded
+/// hash is also stated by its `$` and by two examples.
 pub fn laws()
     ensures mode { TagForgetsMode }
     ensures length { LengthIsTheHash }
@@ -41,9 +41,9 @@ pub fn laws()
 {}
 
 /// The definitions agree with what is known from outside: which blocks may be referred to in each
-/// case of RFC 9106, 3.4.2 (the first slice, the first pass and a later one, the own lane and
-/// another one, the first index of a segment), which of them the least and the greatest word pick,
-/// and a word that is drawn from no block (3.4.1.2).
+/// case of RFC 9106, 3.4.2 (first slice; first or later pass; own or another lane; first index of a
+/// segment), which of these blocks the least and the greatest word pick, and a data-independent
+/// word (3.4.1.2).
 ///
 /// It does nothing when it runs. Its contract states the values, and the checker computes them.
 pub fn known_answers()

@@ -27,8 +27,8 @@ pub use texts::{
     verify_encoded_sequential,
 };
 
-/// The bits in which two hashes of one length differ at any place. They are gathered by `|`, so
-/// that no branch looks at a place alone.
+/// The bits in which two hashes of one length differ, at any place. `|` gathers them, so no branch
+/// depends on a single place.
 fn difference(one: &[u8], other: &[u8]) -> u8
     requires { length one.now ≡ length other.now }
     ensures { result ≡ difference_of one.now other.now }
@@ -61,7 +61,7 @@ fn is_hash(mut tag: Vec<u8>, hash: &[u8]) -> bool
 }
 
 /// The context of a hash of this hash's own length, whatever `config.hash_length` is. The length is
-/// checked in 64 bits, since cut to 32 a longer hash could pass.
+/// checked in 64 bits: cut to 32 bits, that of a longer hash could pass.
 #[tactic(auto, unfolding(argon2_standard::specs::Standard::SettingsTable::table_error))]
 pub fn context_of_hash<'a>(
     config: Config<'a>,
@@ -156,8 +156,8 @@ pub fn verify_raw<R: Threads + Wait + Sync>(
 }
 
 /// Verifies as `verify_raw` does, in a reusable buffer of the caller: see `hash_raw_in`.
-// Its stack frame holds H0. It is never inlined, so that a call without a caller's buffer can
-// overwrite that.
+// Its stack frame holds H0. It is never inlined, so that a call that allocated its own buffer can
+// overwrite that frame.
 #[inline(never)]
 pub fn verify_raw_in<'a, R: Threads + Wait + Sync>(
     rt: &R,
@@ -196,8 +196,8 @@ pub fn verify_raw_sequential(
 
 /// Verifies as `verify_raw` does, by a single-threaded call in a reusable buffer of the caller: see
 /// `hash_raw_in`.
-// Its stack frame holds H0. It is never inlined, so that a call without a caller's buffer can
-// overwrite that.
+// Its stack frame holds H0. It is never inlined, so that a call that allocated its own buffer can
+// overwrite that frame.
 #[inline(never)]
 pub fn verify_raw_in_sequential<'a>(
     alloc: Global,

@@ -59,7 +59,7 @@ impl Block {
         Block { words }
     }
 
-    /// Makes `dst` equal to this block, in place: no third block is made on the way.
+    /// Copies this block to `dst`, in place, without a third block.
     pub fn copy_to(&self, dst: &mut Block)
         ensures { dst.new ≡ self.now }
     {
@@ -152,7 +152,7 @@ impl IndexMut<usize> for Block {
 
 /// The exclusive or, word by word.
 impl BitXorAssign<&Block> for Block {
-    // A loop that it is inlined into would keep the words in a place that nobody overwrites.
+    // Inlined into a loop, it would keep the words in a place that nobody overwrites.
     #[inline(never)]
     fn bitxor_assign(&mut self, rhs: &Block)
         ensures words { self.new ≡ xor self.old rhs.now }

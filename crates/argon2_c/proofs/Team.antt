@@ -1,4 +1,4 @@
--- What is so in each state that a team can reach.
+-- What holds in each state that a team can reach.
 use Rattle.std.proofs.Common.{◌≡◌, ◌≢◌, ℕ, suc, ◌+◌, ◌*◌, ◌<◌, ◌≤◌, Bool, true, false, eqb, refl, sym, ◌∙◌, subst, ap, inl, inr, arith}
 use Rattle.std.proofs.lemmas.Bool.Decides.{eqb_tells}
 use Rattle.argon2_c.specs.Team as T

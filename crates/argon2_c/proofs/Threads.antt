@@ -1,4 +1,4 @@
--- What is so in each state that the threads of a call can reach, and why they do not deadlock.
+-- What holds in each state that the threads of a call can reach, and why they do not deadlock.
 use Rattle.std.proofs.Common.{◌≡◌, ◌≢◌, ◌⊎◌, ℕ, zero, suc, ◌+◌, ◌-◌, ◌*◌, ◌<◌, ◌≤◌, Bool, true, false, cond, ltb, leb, refl, sym, ◌∙◌, subst, ap, inl, inr, arith}
 use Rattle.std.proofs.lemmas.Bool.Decides.{eqb_tells, leb_tells}
 use Rattle.argon2_c.specs.Team as T

@@ -15,23 +15,24 @@ use Rattle.argon2_standard.specs.Standard.Text.{Spelled, spelled_of, text_of}
 abbrev pub padded : ℕ → List ℕ → List ℕ
 padded len text = text ++ replicate (len - length text) 0
 
--- ---- what the calls return. The definitions take the configuration of the settings, or the error of their numbers,
--- and use the definitions of the library's own contract
+-- ---- what the calls return. The definitions take the configuration of some settings, or the error of their
+-- numbers, and build on those of the library's own contract
 
 -- ---- errors
 
--- a library error is returned, and nothing changes; without one, Done is true
+-- if the library has an error, it is returned and nothing changes; otherwise Done is true
 abbrev pub OrError : {A : Type 0} → Option Error → A → A → Result (Unit {0}) CallError → Type 0 → Type 0
 OrError (Some e) old new answer Done = (answer ≡ Err (Library e)) × (new ≡ old)
 OrError None old new answer Done = Done
 
--- a string that is not ASCII or decodes to nothing is rejected, and nothing changes; else Done of the decoded value
+-- a string that is not ASCII or decodes to nothing is rejected, and nothing changes; otherwise Done is true of the
+-- decoded value
 pub record OfText {A : Type 0} (text : List ℕ) (old new : A) (answer : Result (Unit {0}) CallError) (Done : Spelled → Type 0) : Type 0 where
   pub not_ascii : (IsAscii text → ⊥) → (answer ≡ Err NotAscii) × (new ≡ old)
   pub unspelled : IsAscii text → SpellsNothing text → (answer ≡ Err (Library DecodingFail)) × (new ≡ old)
   pub spelled : IsAscii text → (d : Spelled) → Spells text d → Done d
 
--- what is made is written if the buffers fit; else they are as they were
+-- if the buffers fit, `made` is written to them; otherwise they are unchanged
 pub record WritesWhere {A : Type 0} (Fit : Type 0) (made old new : A) (answer : Result (Unit {0}) CallError) : Type 0 where
   pub wrong_length : (Fit → ⊥) → (answer ≡ Err WrongLength) × (new ≡ old)
   pub written : Fit → (answer ≡ Ok tt) × (new ≡ made)

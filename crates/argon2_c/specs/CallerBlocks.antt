@@ -1,4 +1,5 @@
--- What a whole hash over caller-provided blocks returns, in one call. On an error the blocks and the tag are as they were.
+-- What a call returns that computes a whole hash over caller-provided blocks. On an error the blocks and the tag are
+-- unchanged.
 use Rattle.std.specs.Prelude.{◌≡◌, ℕ, ◌*◌, ◌/◌, List, length, Option, Some, None, Result, Ok, Err}
 use Rattle.argon2_standard.specs.declared.config.Config.{Config}
 use Rattle.argon2_standard.specs.declared.error.Error.{Error}
@@ -15,7 +16,7 @@ use Rattle.argon2_c.specs.declared.errors.CallError.TheVariants.{Library, NoJob,
 abbrev pub blocks_of : Config → ℕ
 blocks_of config = 4 * config.lanes * (config.mem_cost / (4 * config.lanes))
 
--- the bytes of these blocks; 0 where no call with these settings is accepted, whatever its inputs
+-- the bytes of these blocks, or 0 if no inputs make a call with these settings valid
 abbrev pub unless_error : Option Error → ℕ → ℕ
 unless_error (Some e) len = 0
 unless_error None len = len

@@ -17,7 +17,7 @@ abbrev pub slice_of_step : ℕ → ℕ
 slice_of_step zero = 0
 slice_of_step (suc n) = n % 4
 
--- four slices keep their lengths, and a step changes one of them at most
+-- all four slices keep their lengths, and a step changes at most one of them
 pub record KeepsSlices (n : ℕ) (before after : List (List (List ℕ))) : Type 0 where
   pub others : remove after (slice_of_step n) ≡ remove before (slice_of_step n)
   pub four : length after ≡ length before

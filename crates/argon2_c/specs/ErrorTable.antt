@@ -5,8 +5,8 @@ use Rattle.argon2_c.specs.declared.errors.CallError.{CallError}
 use Rattle.argon2_standard.specs.declared.error.Error.TheVariants as error
 use Rattle.argon2_c.specs.declared.errors.CallError.TheVariants as call
 
--- ---- the code's own table: the numbers of the errors. A caller of C compares a number with the header, and no definition
--- beside `code_of` looks into the table
+-- ---- the code's own table of error numbers. C programs compare numbers with the header; of the definitions, only
+-- `code_of` uses the table
 
 -- the numbers of the library's errors, from 1 in their order
 abbrev pub library_number : Error → ℕ
@@ -35,7 +35,7 @@ library_number error.WorkerRefused = 21
 
 -- end
 
--- those, and from 64 on the numbers of the errors of the C calls alone
+-- the library's numbers, and from 64 on those of the errors that only C calls have
 abbrev pub number_of : CallError → ℕ
 number_of (call.Library e) = library_number e
 -- errors of C, by .ci/pages/presets
@@ -58,6 +58,6 @@ abbrev pub code_of : Result (Unit {0}) CallError → ℕ
 code_of (Ok _) = 0
 code_of (Err error) = number_of error
 
--- the code is that of an answer for which P holds
+-- this is the code of some answer for which P holds
 abbrev pub IsCodeOf : (Result (Unit {0}) CallError → Type 0) → ℕ → Type 0
 IsCodeOf P code = (answer : Result (Unit {0}) CallError) × (code ≡ code_of answer) × P answer

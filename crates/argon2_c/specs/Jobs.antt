@@ -1,5 +1,5 @@
--- A job: the accepted settings, the setting's numbers and the prehash of a call. What the calls return that make one,
--- and that write the encoded hash of its tag. On an error what a call would have written is as it was.
+-- A job: the numbers of an accepted call's setting, its prehash, and the length of its tag. What the calls return
+-- that make a job or write the encoded hash of the tag. On an error nothing is written.
 use Rattle.std.specs.Prelude.{◌≡◌, ℕ, ◌*◌, ◌<◌, ◌==◌, ◌||◌, Bool, nat_lt, if◌then◌else◌, List, length, Option, Some, None, Result, Ok, Err}
 use Rattle.std.specs.Borrow.{Bor}
 use Rattle.argon2_standard.specs.declared.config.Config.{Config}
@@ -34,12 +34,12 @@ job_of s len = record {
   hash_length = len;
 }
 
--- the most blocks of a slice, 2^30 - 1: four slices have fewer than 2^32
+-- the most blocks of a slice, 2^30 - 1, since four slices have fewer than 2^32 blocks
 abbrev pub max_blocks_in_slice : ℕ
 max_blocks_in_slice = 0x3FFFFFFF
 
--- no accepted call has a job of these numbers: no lane or too many, segments of less than two blocks, slices of
--- too many, no pass, or a tag of less than four bytes
+-- no accepted call has a job of these numbers: no lanes or too many, segments of fewer than two blocks, slices
+-- of too many blocks, no pass, or a tag of fewer than four bytes
 abbrev pub is_out_of_bounds : CallerJob → Bool
 is_out_of_bounds job =
     (job.lanes == 0) || nat_lt max_lanes job.lanes || nat_lt job.segment_length 2 || nat_lt max_blocks_in_slice (job.lanes * job.segment_length)
@@ -56,7 +56,8 @@ setting_with job variant version = record {
   passes = job.passes;
 }
 
--- the same with those of their numbers, if there are such and the numbers are within their bounds
+-- the same with the variant and version of the job's numbers, if both exist and the other numbers
+-- are in bounds
 abbrev pub setting_at : CallerJob → Option Variant → Option Version → Option Setting
 setting_at job None version = None
 setting_at job (Some variant) None = None

@@ -23,7 +23,7 @@ use Rattle.argon2_text.specs.declared.encoding.reading.Head.{Head}
 
 -- ---- the numbers
 
--- a length as far as a field of 32 bits holds it
+-- a length, but at most 2^32 - 1, as a field of 32 bits holds it
 abbrev pub held : ℕ → ℕ
 held len = min len max_length
 
@@ -45,7 +45,7 @@ stored_of d = record {
 abbrev pub ReadsText : List ℕ → Stored → Stored → Result (Unit {0}) CallError → Type 0
 ReadsText text old new answer = OfText text old new answer (λ d. (answer ≡ Ok tt) × (new ≡ stored_of d))
 
--- the same, or too costly with the old numbers
+-- the same or, above the limits, TooCostly and the old numbers
 abbrev pub ReadsWithin : Bool → Stored → Stored → Stored → Result (Unit {0}) CallError → Type 0
 ReadsWithin true spelled old new answer = (answer ≡ Err TooCostly) × (new ≡ old)
 ReadsWithin false spelled old new answer = (answer ≡ Ok tt) × (new ≡ spelled)
@@ -83,7 +83,7 @@ abbrev pub ComparesSettings : Result Config Error → List ℕ → Result (Unit 
 ComparesSettings (Err e) text answer = answer ≡ Err (Library e)
 ComparesSettings (Ok config) text answer = OfText text (tt {0}) (tt {0}) answer (λ d. Compares (Agrees d config) answer)
 
--- ---- the head of an encoded hash: all that it decodes to before its salt and its hash, and these two as they are written there
+-- ---- the head of an encoded hash: what it decodes to before the salt, and the salt and the hash in base64
 
 -- the string decodes to a value with this head
 abbrev pub HasHead : List ℕ → Head → Type 0

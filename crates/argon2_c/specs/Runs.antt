@@ -28,14 +28,15 @@ pub record IsMade (pwd salt : List ℕ) (config : Config) (len : ℕ) (job : Cal
   pub accepted : table_error config (length pwd) (length salt) len ≡ None
   pub made : job ≡ job_of (setting_of pwd salt config len) len
 
--- a step that answered 0 fills a lane's segment of slice number n, counted over all passes, beside the three others
+-- a step that returned 0 filled a lane's segment of slice number n, counted over all passes, from the three other
+-- slices
 abbrev pub FillsLane : CallerJob → ℕ → ℕ → List (List (List ℕ)) → List (List ℕ) → List (List ℕ) → Type 0
 FillsLane job n lane slices old new = let beside = remove slices (n % 4) in
     Fills (setting_of_job job) (n / 4) (n % 4) lane (slice_at beside 0) (slice_at beside 1) (slice_at beside 2) old new (Ok tt)
 
--- the four slices before slice number n, counted over all passes, for each n; each step returned 0. A lane's step
--- depends only on its own segment and the three other slices, which no step writes meanwhile, so nothing is said of
--- the order of a slice's lanes
+-- for each n, the four slices before slice number n is filled, counted over all passes. Each step returned 0. A
+-- lane's step depends only on its own segment and the three other slices, which no step writes meanwhile. So the
+-- order of a slice's lanes is left open
 pub record IsRun (job : CallerJob) (slices : ℕ → List (List (List ℕ))) : Type 0 where
   pub four : (n : ℕ) → length (slices n) ≡ 4
   pub long : (k : ℕ) → k < 4 → length (slice_at (slices 0) k) ≡ job.lanes * job.segment_length
@@ -57,12 +58,12 @@ pub record IsBegin (job : CallerJob) (lane : ℕ) (before after : List (List (Li
   pub begun : Begins (setting_of_job job) lane (segment_of job (slice_at before 0) lane) (segment_of job (slice_at after 0) lane) (Ok tt)
   pub only : WritesLane job 0 lane before after
 
--- and its turn in slice number n: both see what the turns before them left
+-- its turn in slice number n. Each turn sees what the turns before it wrote
 pub record IsFill (job : CallerJob) (n lane : ℕ) (before after : List (List (List ℕ))) : Type 0 where
   pub filled : FillsLane job n lane before (segment_of job (slice_at before (n % 4)) lane) (segment_of job (slice_at after (n % 4)) lane)
   pub only : WritesLane job (n % 4) lane before after
 
--- from four slices on, each lane has one turn to begin, and then one in each slice
+-- starting from any four slices, each lane has one turn to begin, and then one in each slice
 pub record IsRunOfTurns (job : CallerJob) (start : List (List (List ℕ))) (slices : ℕ → List (List (List ℕ))) : Type 0 where
   pub four : (n : ℕ) → length (slices n) ≡ 4
   pub long : (k : ℕ) → k < 4 → length (slice_at (slices 0) k) ≡ job.lanes * job.segment_length
@@ -75,7 +76,7 @@ EveryOrderOfTurnsIsARun = (job : CallerJob) (start : List (List (List ℕ))) (sl
 
 -- ---- what runs give
 
--- `finish` then writes the tag
+-- after a run, `finish` writes the tag
 abbrev pub EveryRunGivesTheTag : Type 0
 EveryRunGivesTheTag = (pwd salt : List ℕ) (config : Config) (len : ℕ) (job : CallerJob) (slices : ℕ → List (List (List ℕ)))
     → IsMade pwd salt config len job → IsRun job slices

@@ -40,7 +40,7 @@ config_with settings secret ad variant version = record {
   version = version;
 }
 
--- the same for the numbers of a variant and of a version, if there are such; the variant is looked at first
+-- the same for the numbers of a variant and of a version, if both exist; the variant is checked first
 abbrev pub config_at : Settings → Bor (List ℕ) → Bor (List ℕ) → Option Variant → Option Version → Result Config Error
 config_at settings secret ad None version = Err IncorrectType
 config_at settings secret ad (Some variant) None = Err IncorrectVersion
@@ -75,7 +75,7 @@ recommended memory passes = record {
 
 -- ---- the limits for an encoded hash
 
--- the limits as the library has them, and the other way
+-- limits converted to the library's type, and back
 abbrev pub limits_of : Limits → LibraryLimits
 limits_of limits = record { mem_cost = limits.mem_cost; time_cost = limits.time_cost; lanes = limits.lanes; work = limits.work }
 

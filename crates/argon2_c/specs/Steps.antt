@@ -1,5 +1,5 @@
--- What the steps of a hash over caller-provided blocks return, which the C driver calls where it has threads or a
--- callback. A step checks all numbers that it is given, and on an error what it would have written is as it was.
+-- What the steps of a hash over caller-provided blocks return. The C driver calls them if it has threads or a
+-- callback. A step checks all numbers that it is given; on an error nothing is written.
 use Rattle.std.specs.Prelude.{◌≡◌, ℕ, ◌-◌, ◌*◌, ◌<◌, List, [], ◌∷◌, length, Option, Some, None, Result, Ok, Err}
 use Rattle.argon2_standard.specs.Standard.Setting.{Setting}
 use Rattle.argon2_standard.specs.Standard.Tag.{last_blocks, tag_from}
@@ -28,7 +28,7 @@ pub record AreBlocks (s : Setting) (one two three segment : List (List ℕ)) : T
   pub third : IsSlice s three
   pub own : length segment ≡ s.segment_length
 
--- a lane's segment of slice 0 with its first two blocks
+-- the first two blocks of a lane, written to its segment of slice 0
 pub record BeginsAt (s : Setting) (lane : ℕ) (old new : List (List ℕ)) (answer : Result (Unit {0}) CallError) : Type 0 where
   pub no_place : (lane < s.lanes → ⊥) → (answer ≡ Err NoPlace) × (new ≡ old)
   pub wrong_blocks : lane < s.lanes → (length old ≡ s.segment_length → ⊥) → (answer ≡ Err WrongBlocks) × (new ≡ old)
@@ -38,7 +38,7 @@ abbrev pub Begins : Option Setting → ℕ → List (List ℕ) → List (List �
 Begins None lane old new answer = (answer ≡ Err NoJob) × (new ≡ old)
 Begins (Some s) lane old new answer = BeginsAt s lane old new answer
 
--- a lane's segment of a slice after a pass, beside the other three slices in rising order
+-- a lane's segment of a slice, filled in a pass from the other three slices in rising order
 pub record FillsAt (s : Setting) (pass slice lane : ℕ) (first second third old new : List (List ℕ)) (answer : Result (Unit {0}) CallError) : Type 0 where
   pub no_place : (IsPlace s pass slice lane → ⊥) → (answer ≡ Err NoPlace) × (new ≡ old)
   pub wrong_blocks : IsPlace s pass slice lane → (AreBlocks s first second third old → ⊥) → (answer ≡ Err WrongBlocks) × (new ≡ old)

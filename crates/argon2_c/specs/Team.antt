@@ -1,6 +1,6 @@
--- A model of the threads that fill memory for the C driver. A team takes the steps of one hash: it has any number of
--- threads, of workers (each has some of the lanes) and of lanes. A thread can be late, take a part that another was meant
--- to take, or fail, and a thread pool can run wrong tasks. The driver names each move where it makes it.
+-- A model of the threads that fill memory for the C driver. A team takes the steps of one hash. It has any number of
+-- threads, of lanes, and of workers, each with some of the lanes. A thread can be late, take a part meant for another,
+-- or fail, and a thread pool can run wrong tasks. The driver names each move where it makes it.
 use Rattle.std.specs.Prelude.{◌≡◌, ◌≢◌, ◌⊎◌, ℕ, suc, ◌+◌, ◌*◌, ◌<◌, ◌≤◌, Bool, true, false, cond, eqb}
 
 -- What a team has to do: some steps, one after another, each of which writes one segment of each lane.
@@ -33,7 +33,7 @@ pub record Team (w : Work) : Type 0 where
 -- What a thread can do next.
 pub data Move (w : Work) : Type 0 where
   Wakes : (thread : ℕ) → Move w  -- the caller's thread wakes another one for a step
-  Enters : (thread : ℕ) → Move w  -- that thread enters the next step, as it counts them
+  Enters : (thread : ℕ) → Move w  -- another thread enters the next step by its own count
   Claims : (step worker : ℕ) → Move w  -- a thread claims a worker's part of the step that it is in
   Runs : (task : ℕ) → Move w  -- the pool runs a task, which claims its part
   Strays : (task : ℕ) → Move w  -- the pool runs a task that does not exist, or whose part is claimed already
@@ -62,12 +62,13 @@ pub record CanClaim (w : Work) (s : Team w) (step worker : ℕ) : Type 0 where
   pub exists : worker < w.tasks
   pub free : s.state worker ≡ 2 * step
 
--- Somebody works on it.
+-- Somebody works on a worker's part.
 pub record CanEnd (w : Work) (s : Team w) (step worker : ℕ) : Type 0 where
   pub exists : worker < w.tasks
   pub at_work : s.state worker ≡ 2 * step + 1
 
--- Meanwhile anything may be in the worker's own segments, and everything else stays.
+-- While a worker's part is being worked on, its segments may hold anything, and everything else
+-- stays.
 pub record CanWrite (w : Work) (s : Team w) (step worker : ℕ) (memory : w.Memory) : Type 0 where
   pub can : CanEnd w s step worker
   pub keeps : w.Keeps step s.memory memory
@@ -170,7 +171,7 @@ pub record IsStep (w : Work) (n : ℕ) (before after : w.Memory) : Type 0 where
   pub keeps : w.Keeps n before after
   pub fills : (l : ℕ) → l < w.lanes → w.Fills n l before (w.segment n l before) (w.segment n l after)
 
--- What the theorems assume of the work: whether a segment is filled depends on nothing in the step's other segments.
+-- What the theorems assume of the work: whether a segment is filled does not depend on the step's other segments.
 pub record IsApart (w : Work) : Type 0 where
   pub workers : (l : ℕ) → l < w.lanes → w.worker l < w.tasks
   pub none : (n : ℕ) (m : w.Memory) → w.Keeps n m m

@@ -28,23 +28,24 @@ pub record Threads (w : Work) (members : ℕ) (is_long : Bool) : Type 0 where
 -- What a thread can do next.
 pub data Move (w : Work) (members : ℕ) (is_long : Bool) : Type 0 where
   Wakes : (thread : ℕ) → Move w members is_long  -- the caller's thread wakes another one for a step
-  Begins : Move w members is_long  -- it has woken all others, and begins to take parts
+  Begins : Move w members is_long  -- the caller's thread has woken all others, and begins to take parts
   Claims : (thread part taken : ℕ) → Move w members is_long  -- a thread claims a part
-  Leaves : (thread part taken : ℕ) → Move w members is_long  -- it takes no more parts of this step
-  Writes : (thread part taken : ℕ) → w.Memory → Move w members is_long  -- it changes the segments of its part
-  Finishes : (thread part taken code : ℕ) → Move w members is_long  -- it marks its part as done
-  Tells : (thread parts : ℕ) → Move w members is_long  -- it wakes the caller's thread for a part that it took
-  Waits : (thread : ℕ) → Move w members is_long  -- it has done so for each part, and waits
-  Awakes : (thread : ℕ) → Move w members is_long  -- it was woken
-  Enters : (thread : ℕ) → Move w members is_long  -- it enters the next step
-  Exits : (thread : ℕ) → Move w members is_long  -- it sees that the call is over, and ends
+  Leaves : (thread part taken : ℕ) → Move w members is_long  -- a thread takes no more parts of this step
+  Writes : (thread part taken : ℕ) → w.Memory → Move w members is_long  -- a thread changes the segments of its part
+  Finishes : (thread part taken code : ℕ) → Move w members is_long  -- a thread marks its part as done
+  Tells : (thread parts : ℕ) → Move w members is_long  -- a thread wakes the caller's for a part that it took
+  Waits : (thread : ℕ) → Move w members is_long  -- a thread has woken the caller's for each of its parts, and waits
+  Awakes : (thread : ℕ) → Move w members is_long  -- a thread was woken
+  Enters : (thread : ℕ) → Move w members is_long  -- a thread enters the next step
+  Exits : (thread : ℕ) → Move w members is_long  -- a thread sees that the call is over, and ends
   Counts : (parts : ℕ) → Move w members is_long  -- the caller's thread was woken for a part
-  Advances : Move w members is_long  -- it goes on to the next step
-  Stops : Move w members is_long  -- it takes no further step
-  Dismisses : (thread : ℕ) → Move w members is_long  -- it wakes another thread for the last time
-  Returns : Move w members is_long  -- it has joined all others, and returns
+  Advances : Move w members is_long  -- the caller's thread goes on to the next step
+  Stops : Move w members is_long  -- the caller's thread takes no further step
+  Dismisses : (thread : ℕ) → Move w members is_long  -- the caller's thread wakes another for the last time
+  Returns : Move w members is_long  -- the caller's thread has joined all others, and returns
 
--- The step that a thread is in: another one than the caller's counts how many it has entered.
+-- The step that a thread is in. A thread other than the caller's counts the steps that it has
+-- entered.
 abbrev pub own_step : (w : Work) (members : ℕ) (is_long : Bool) → Threads w members is_long → ℕ → ℕ
 own_step w members is_long s j = cond (eqb j 0) s.team.step (s.team.entered j - 1)
 
@@ -95,7 +96,7 @@ Can w members is_long s Stops = (s.place 0 ≡ Counting w.tasks) ⊎ (s.place 0 
 Can w members is_long s (Dismisses k) = (s.place 0 ≡ Ending k) × (k ≤ members)
 Can w members is_long s Returns = (s.place 0 ≡ Ending (suc members)) × ((j : ℕ) → IsMember w members is_long j → s.place j ≡ Ended)
 
--- A thread goes to a place; meanwhile it wakes a thread, or takes a wake.
+-- A thread moves to another place. It may also wake a thread, or use up a wake.
 abbrev pub goes : (w : Work) (members : ℕ) (is_long : Bool) → Threads w members is_long → ℕ → Place → Threads w members is_long
 goes w members is_long s j place = record s { place = updated s.place j place }
 
@@ -105,7 +106,7 @@ wakes_for w members is_long s k j place = record (goes w members is_long s j pla
 abbrev pub waits_for : (w : Work) (members : ℕ) (is_long : Bool) → Threads w members is_long → ℕ → Place → Threads w members is_long
 waits_for w members is_long s j place = record (goes w members is_long s j place) { wakes = updated s.wakes j (s.wakes j - 1) }
 
--- Where a thread is that takes no more parts.
+-- The place of a thread that takes no more parts.
 abbrev pub told : ℕ → ℕ → Place
 told j n = cond (eqb j 0) (Counting n) (Telling n)
 

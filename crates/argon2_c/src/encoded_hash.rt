@@ -25,8 +25,8 @@ pub fn head_of(bytes: &[u8]) -> Result<Head<'_>, CallError>
     }
 }
 
-/// The bits that any byte has. One comparison with them decides for all bytes, so that no branch
-/// looks at a character of the hash.
+/// All bytes, combined by OR. One comparison decides for all, so that no branch depends on a single
+/// character of the hash.
 fn all_bits(bytes: &[u8]) -> u8
     ensures { result ≡ fold (λ bits byte. bit_or bits byte) 0 bytes.now }
 {

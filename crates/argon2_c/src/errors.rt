@@ -23,7 +23,7 @@ pub enum CallError {
     /// The string is not ASCII.
     NotAscii,
 
-    /// No error has this number. No call returns it: the C driver has its message.
+    /// No call returns this. The C driver uses its message for a number that no error has.
     UnknownNumber,
 
     /// The encoded hash was made with other settings.
@@ -106,8 +106,8 @@ pub fn code_of(answer: &Result<(), CallError>) -> u32
     }
 }
 
-/// What a verifying call returns to C. The number of a verdict is computed from it, so that no
-/// branch looks at it and no table is looked into at its place.
+/// What a verifying call returns to C. The number is computed from the verdict, so that no branch
+/// and no table index depends on it.
 pub fn code_of_verdict(verdict: &Result<bool, CallError>) -> u32
     ensures { result ≡ code_of (judgement_of verdict.now) }
 {

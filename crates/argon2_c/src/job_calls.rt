@@ -1,5 +1,5 @@
-//! The calls over a caller-provided memory, which C fills in steps, by as many threads as it likes,
-//! since an export may start none.
+//! The calls with which C fills a caller-provided memory in steps, by as many threads as it likes.
+//! An export itself may start none.
 
 ghost use Rattle.std.specs.Prelude.{◌≡◌, ℕ, List, []};
 ghost use Rattle.std.specs.Borrow.{Bor};

@@ -66,8 +66,8 @@ impl Settings {
         })
     }
 
-    /// Whether a hash with these settings is made of inputs of these lengths. The numbers of variant
-    /// and version are checked first, then the settings table.
+    /// Whether these settings are accepted with inputs of these lengths. The numbers of variant and
+    /// version are checked first, then the settings table.
     pub fn check(
         &self,
         pwd_len: u64,
@@ -102,8 +102,8 @@ impl Settings {
         }
     }
 
-    /// The length of the encoded hash with a salt of this length, or 0 where the settings have no
-    /// configuration.
+    /// The length of the encoded hash with a salt of this length, or 0 if no variant or version has
+    /// the given number.
     pub fn encoded_len(&self, salt_len: u32) -> u64
         ensures { (secret ad : Bor (List ℕ)) → IsTextLength
             (config_of self.now secret ad) salt_len result }
@@ -115,7 +115,8 @@ impl Settings {
     }
 }
 
-/// The bytes of the blocks of a configuration, or 0 where the settings table has an error for it.
+/// The bytes of the blocks of a configuration, or 0 if the settings table rejects it for all
+/// inputs.
 fn memory_len(config: &Config<'_>) -> u64
     ensures { result ≡ memory_len_of (Ok config.now) }
 {

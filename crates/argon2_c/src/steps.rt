@@ -94,8 +94,8 @@ pub fn finish(numbers: &CallerJob, last: &[Block], out: &mut [u8]) -> Result<(),
     Ok(())
 }
 
-/// Whether a hash is the tag, which is then in a buffer of its length. The buffer is the caller's,
-/// who clears it: a compiler may drop a write here that nobody reads.
+/// Whether a hash is the tag, which is then in a buffer of its length. The caller owns the buffer
+/// and clears it: a compiler may drop a write here that nobody reads.
 #[inline(never)]
 pub fn verify(
     numbers: &CallerJob,

@@ -67,15 +67,15 @@ pub record RehashAnswers (encoded : List ℕ) (config : Config) (result : Result
 abbrev pub longest_password : ℕ
 longest_password = 65536
 
--- the password is what the input held, where its bytes are known
+-- the password is the whole input, if its bytes are known
 abbrev pub IsPassword : Option (List ℕ) → List ℕ → Type 0
 IsPassword input password = IfSome input (λ bytes. password ≡ bytes)
 
--- and `new` and `check` accept it
+-- the same, and `new` and `check` accept its length
 abbrev pub IsShortPassword : Option (List ℕ) → List ℕ → Type 0
 IsShortPassword input password = IsPassword input password × (length password ≤ longest_password)
 
--- the input holds more than they accept
+-- the input is longer than `new` and `check` accept
 abbrev pub IsTooLong : Option (List ℕ) → Type 0
 IsTooLong input = IfSome input (λ bytes. longest_password < length bytes)
 
@@ -93,8 +93,8 @@ pub record NewAnswers (config : Config) (salt password lines : List ℕ) : Type 
   pub within : is_above_limits config ≡ false
   pub hashed : HashAnswers config salt password lines
 
--- the answer fits the command: of `hash` and `new` the lines for the password that was read, whose settings were
--- accepted; of the others the verdict
+-- the answer fits the command: for `hash` and `new`, the lines for the password that was read, whose settings
+-- were accepted; for the others, the verdict
 abbrev pub IsAnswer : Command → Option (List ℕ) → Answer → Type 0
 IsAnswer (Hash config salt) input (Hashed lines) =
     (password : List ℕ) × IsPassword input password × HashAnswers config salt.now password (string_bytes lines)
@@ -118,8 +118,8 @@ IsHashError config salt password error =
     (IsResourceError (may_lack_workers config) error)
     (λ first. error ≡ first)
 
--- why `new` makes no hash of a password: its encoded hash would be above a limit; else the error of the hash, or that of
--- the memory for the salt
+-- why `new` makes no hash of a password: its encoded hash would exceed a limit; otherwise hashing has an error, or
+-- there is no memory for the salt
 abbrev pub NewFails : Config → List ℕ → List ℕ → Fault → Type 0
 NewFails config salt password TooCostlyFault = is_above_limits config ≡ true
 NewFails config salt password (RefusedFault error) =
@@ -129,12 +129,12 @@ NewFails config salt password Input = ⊥
 NewFails config salt password Output = ⊥
 NewFails config salt password OutputShort = ⊥
 
--- the error is that of the memory to read the password, or of its length
+-- there was no memory to read the password, or it is too long
 abbrev pub IsReadingError : Option (List ℕ) → Error → Type 0
 IsReadingError input error = (error ≡ OutOfMemory) ⊎ ((error ≡ PwdTooLong) × IsTooLong input)
 
--- the error may be that of the command: that of the password that was read, or that of the memory to
--- read it; `rehash` reads none, and `new` and `check` reject a long one
+-- the command may have this error: because of the password that was read, or because there was no
+-- memory to read it. `rehash` reads none, and `new` and `check` reject a long one
 abbrev pub MayBeError : Command → Option (List ℕ) → Error → Type 0
 MayBeError (Hash config salt) input error = (error ≡ OutOfMemory)
     ⊎ ((password : List ℕ) × IsPassword input password × IsHashError config salt.now password error)
@@ -150,7 +150,7 @@ MayBeError (Check encoded) input error = IsReadingError input error
 abbrev pub IsTooCostly : List ℕ → Type 0
 IsTooCostly encoded = (SpellsNothing encoded → ⊥) × ((d : Spelled) → Spells encoded d → is_too_costly default_limits d ≡ true)
 
--- the command is to check such a text, or to make one
+-- the command is `check` of such a string, or `new` with settings above a limit
 abbrev pub AsksTooMuch : Command → Type 0
 AsksTooMuch (Hash config salt) = ⊥
 AsksTooMuch (Verify encoded) = ⊥
@@ -175,7 +175,7 @@ NeedsNoInput (Rehash config encoded) = ⊤
 NeedsNoInput (New config salt) = ⊥
 NeedsNoInput (Check encoded) = ⊥
 
--- at most so many bytes of an input were read, which are gone from it
+-- at most `most` bytes were read from an input, and are gone from it
 abbrev pub ReadsUpTo : ℕ → Option (List ℕ) → Option (List ℕ) → Type 0
 ReadsUpTo most before after = (bytes : List ℕ) × Consumes before after bytes × (length bytes ≤ most)
 

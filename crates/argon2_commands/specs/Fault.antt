@@ -1,4 +1,4 @@
--- What a fault is told as.
+-- How a fault is reported.
 use Rattle.std.specs.Prelude.{ℕ, List, [], ◌++◌, codes, ⊤}
 use Rattle.argon2_standard.specs.Views.Messages.{message_of}
 use Rattle.argon2_commands.specs.declared.fault.Fault.{Fault}
@@ -13,8 +13,8 @@ abbrev pub fault_of : Unverified → Fault
 fault_of UnverifiedTooCostly = TooCostly
 fault_of (UnverifiedRefused error) = Refused error
 
--- 2 for an error and for want of memory, 3 for words of no command, 4 where a stream failed for another
--- reason, 5 for a text above the limits
+-- 2 for an error and for lack of memory, 3 for a usage error, 4 if a stream failed for another reason,
+-- 5 for an encoded hash above the limits
 abbrev pub fault_status : Fault → ℕ
 fault_status (Refused error) = 2
 fault_status Usage = 3

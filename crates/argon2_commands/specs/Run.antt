@@ -12,16 +12,16 @@ use Rattle.argon2_commands.specs.declared.command.Command.{Command}
 use Rattle.argon2_commands.specs.declared.usage.Program.{Program}
 use Rattle.argon2_commands.specs.declared.usage.Program.TheVariants.{Argon2, Tool}
 
--- ---- what a writer that may fail was given
+-- ---- what was written to a writer that may fail
 
--- known bytes grow by first bytes of these: all, some or none
+-- if known, the written bytes grew by a front of `bytes`: all, some or none
 abbrev pub AppendsFront : Option (List ℕ) → Option (List ℕ) → List ℕ → Type 0
 AppendsFront before after bytes = (count : ℕ) × Appends before after (take count bytes)
 
 -- ---- what a run does
 
--- the status is that of the answer to the words' command, whose lines were written: the input's bytes
--- before the run, and the output's before and after it, where they are known
+-- the status is that of the command's answer, whose lines were written. If known, `input` is the
+-- input before the run, and `before` and `after` are the output before and after it
 pub record Answered (program : Program) (words : List (List ℕ)) (input before after : Option (List ℕ)) (status : ℕ) : Type 0 where
   pub command : Command
   pub answer : Answer
@@ -37,23 +37,24 @@ pub record HasAnswer (program : Program) (words : List (List ℕ)) (input : Opti
   pub is_command : IsCommand program words command
   pub is_answer : IsAnswer command input answer
 
--- the words' command may fail so, for the input's bytes, where they are known
+-- the words' command may fail with this error, judged by the input's bytes if they are known
 pub record MayFailWith (program : Program) (words : List (List ℕ)) (input : Option (List ℕ)) (error : Error) : Type 0 where
   pub command : Command
   pub is_command : IsCommand program words command
   pub may_fail : MayBeError command input error
 
--- the words' command is to check a text that is above a default limit, or to make one
+-- the words' command is `check` of a string above a default limit, or `new` with settings above one
 pub record AreTooCostly (program : Program) (words : List (List ℕ)) : Type 0 where
   pub command : Command
   pub is_command : IsCommand program words command
   pub asks_too_much : AsksTooMuch command
 
--- the fault of words that ask for too much, or one that is told before it: the password cannot be read
+-- the fault of a command that asks too much, or one reported first, since the password could not be
+-- read
 abbrev pub MayPrecede : Fault → Type 0
 MayPrecede fault = (fault ≡ TooCostly) ⊎ ((fault ≡ Input) ⊎ ((fault ≡ Refused OutOfMemory) ⊎ (fault ≡ Refused PwdTooLong)))
 
--- the words are those of a command that needs no input, or of none
+-- the words are a command that needs no input, or no command
 abbrev pub NeedNoInput : Program → List (List ℕ) → Type 0
 NeedNoInput program words = (command : Command) → IsCommand program words command → NeedsNoInput command
 
@@ -72,13 +73,13 @@ abbrev pub statuses_of : Program → ℕ
 statuses_of Argon2 = 5
 statuses_of Tool = 6
 
--- the words' command may fail, and nothing was written; or it has an answer, and the output had no
--- memory to take all of it. A status does not say which of the two it was: a fault does
+-- the words' command may fail, and nothing was written; or it has an answer, and the output lacked
+-- memory for all of it. The status is the same in both cases; the fault differs
 abbrev pub IsShortOrFails : Program → List (List ℕ) → Option (List ℕ) → Option (List ℕ) → Option (List ℕ) → Type 0
 IsShortOrFails program words input before after =
     (((error : Error) × MayFailWith program words input error) × Keeps before after) ⊎ HasAnswer program words input
 
--- only first bytes of the answer's lines to the words' command were written
+-- a front of the lines of the command's answer was written, and nothing else
 pub record WritesFront (program : Program) (words : List (List ℕ)) (input before after : Option (List ℕ)) : Type 0 where
   pub command : Command
   pub answer : Answer
@@ -90,6 +91,6 @@ pub record WritesFront (program : Program) (words : List (List ℕ)) (input befo
 abbrev pub WritesAnswer : Program → List (List ℕ) → Option (List ℕ) → Option (List ℕ) → Option (List ℕ) → Type 0
 WritesAnswer program words input before after = Keeps before after ⊎ WritesFront program words input before after
 
--- what holds of the command line's words, where its arguments are known, or of some words where they are not
+-- P holds of the words of the command line if its arguments are known, and otherwise of some words
 abbrev pub OfWords : Option (List (List ℕ)) → (List (List ℕ) → Type 0) → Type 0
 OfWords known P = (words : List (List ℕ)) × AreWords known words × P words

@@ -1,4 +1,4 @@
--- Usage errors: which argument keeps arguments from being a command, and why.
+-- Usage errors: why arguments are no command of a program, and which of them is wrong.
 use Rattle.std.specs.Prelude.{◌≡◌, ◌≢◌, ℕ, ◌<◌, List, [], ◌∷◌, codes, length, slice_index_or, IsSome, ⊤}
 use Rattle.std.specs.Result.{result_ok}
 use Rattle.hex.specs.Hex.{decode_of}
@@ -61,7 +61,7 @@ Fits Text word = ⊤
 abbrev pub kind_at : List Kind → ℕ → Kind
 kind_at kinds place = slice_index_or kinds place Text
 
--- all before a place fit
+-- all arguments before a place fit
 abbrev pub FitBelow : List Kind → List (List ℕ) → ℕ → Type 0
 FitBelow kinds words end = (place : ℕ) → place < end → Fits (kind_at kinds place) (word words place)
 

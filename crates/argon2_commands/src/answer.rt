@@ -50,7 +50,7 @@ impl Answer {
         ensures stops { ReadsUpTo (most_read command.now) (I.remaining input.old)
             (I.remaining input.new) }
     {
-        // The input first, since its fault is reported before any of the call.
+        // The input is read first, since its fault is reported before any of the call.
         match command {
             Command::Hash { config, salt } => {
                 let password = read_password(alloc, input)?;
@@ -134,7 +134,7 @@ fn tag_lines<R: Threads + Wait + Sync>(
     Ok(format!(in alloc; "{hexadecimal}\n{text}\n")?)
 }
 
-/// The same of a password, whose settings are checked first.
+/// The lines of `tag_lines` for a password, whose settings are checked first.
 fn hash_lines<R: Threads + Wait + Sync>(
     rt: &R,
     alloc: Global,
@@ -154,7 +154,7 @@ fn hash_lines<R: Threads + Wait + Sync>(
     }
 }
 
-/// The same where the encoded hash is within the default limits.
+/// The lines of `hash_lines`, if the encoded hash is within the default limits.
 fn new_lines<R: Threads + Wait + Sync>(
     rt: &R,
     alloc: Global,

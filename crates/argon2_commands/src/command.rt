@@ -109,7 +109,7 @@ fn settings_at<'a>(words: &[String], thread_mode: ThreadMode) -> Config<'a>
     }
 }
 
-/// The mode of the argument `MODE`, which is one.
+/// The mode that the argument `MODE` names. It was checked to be one.
 fn mode_at(words: &[String]) -> ThreadMode
     requires count { 7 < length words.now }
     requires fits { Fits Mode (word (texts_of words.now) 7) }
@@ -118,7 +118,7 @@ fn mode_at(words: &[String]) -> ThreadMode
     mode_of(words[7].as_str()).unwrap()
 }
 
-/// The salt of the argument `DIGITS`, which are pairs.
+/// The salt that the argument `DIGITS` encodes. It was checked to be pairs.
 fn salt_at(words: &[String]) -> Salt<'_>
     requires count { 8 < length words.now }
     requires fits { Fits Digits (word (texts_of words.now) 8) }
@@ -127,7 +127,7 @@ fn salt_at(words: &[String]) -> Salt<'_>
     Salt::from_digits(words[8].as_str()).unwrap()
 }
 
-/// The number that the argument at a place writes, which is one.
+/// The number in the argument at a place, which was checked to be one.
 fn number_at(words: &[String], place: usize) -> u32
     requires count { place < length words.now }
     requires fits { Fits Number (word (texts_of words.now) place) }

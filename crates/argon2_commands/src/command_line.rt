@@ -52,7 +52,7 @@ pub fn arguments<L: CommandLine>(line: &L, alloc: Global) -> Result<Vec<String>,
         ⊎ (fault ≡ Fault.Refused OutOfMemory)) }
 {
     let mut words = Vec::new(alloc);
-    // The bound only lets the prover see an end: so many arguments fit no memory.
+    // The bound only shows the prover that the loop ends: memory cannot hold so many arguments.
     for index in 1..usize::MAX {
         let Some(bytes) = line.argument(alloc, index)? else {
             return Ok(words);

@@ -49,8 +49,8 @@ pub(crate) fn read_short_password<I: Read>(alloc: Global, input: &mut I) -> Resu
     Ok(password)
 }
 
-/// The first bytes of the input, at most so many, and all where there are fewer. A reader that
-/// lacked memory is told apart, since that is a resource error and no fault of the input.
+/// Reads the input up to `most` bytes, or to its end. A reader's lack of memory is reported
+/// separately: it is a resource error, not a fault of the input.
 fn read_up_to<I: Read>(alloc: Global, input: &mut I, most: usize) -> Result<Vec<u8>, Fault>
     ensures bytes { IfOk result (λ password. IfSome (I.remaining input.old) (λ bytes.
         password.items ≡ take most bytes)) }
@@ -60,7 +60,7 @@ fn read_up_to<I: Read>(alloc: Global, input: &mut I, most: usize) -> Result<Vec<
 {
     let mut password = Vec::new(alloc);
     let mut piece = [0u8; PIECE];
-    // The bound only lets the prover see an end: so many pieces fit no memory.
+    // The bound only shows the prover that the loop ends: memory cannot hold so many pieces.
     for _ in 0..u64::MAX {
         let room = piece.len().min(most - password.len());
         if room == 0 {
@@ -75,7 +75,7 @@ fn read_up_to<I: Read>(alloc: Global, input: &mut I, most: usize) -> Result<Vec<
     Err(Fault::Input)
 }
 
-/// The fault of a read that failed. One that a signal interrupted is repeated.
+/// The fault of a failed read. A read that a signal interrupted is repeated.
 fn fault_of_read(error: &io::Error) -> Result<(), Fault>
     ensures { IfErr result (λ fault. (fault ≡ Fault.Input) ⊎ (fault ≡ Fault.Refused OutOfMemory)) }
 {

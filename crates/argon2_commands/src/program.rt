@@ -18,8 +18,8 @@ use std::process::ExitCode;
 use std::sync::Wait;
 use std::thread::Threads;
 
-/// Runs a program on a command line, and ends with the run's status. Arguments that are not UTF-8
-/// are those of no command.
+/// Runs a program on a command line, and exits with the run's status. Arguments that are not UTF-8
+/// are a usage error.
 pub fn start<R: Threads + Wait + Sync, L: CommandLine, I: Read, O: Write, E: Write>(
     rt: &R,
     alloc: Global,

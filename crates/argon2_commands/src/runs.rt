@@ -21,18 +21,18 @@ use std::thread::Threads;
 /// Does what the arguments of a program say, and returns the exit status. If the attempt fails, it
 /// writes the fault's line.
 ///
-/// Those of the tool are `hash`, `verify` and `rehash`, as for `run`, and these two:
+/// The commands of the tool are `hash`, `verify` and `rehash`, as for `run`, and these two:
 ///
 /// | Arguments | Output |
 /// |---|---|
 /// | `new VARIANT VERSION T M P LEN MODE DIGITS` | the tag in lower-case hexadecimal and the encoded hash, a line each |
 /// | `check TEXT` | `true` or `false`: whether the input is the password of the encoded hash |
 ///
-/// Their salt is given in hexadecimal digits, two of either case a byte. The password is all of
-/// `input`, and at most 65536 bytes; a longer one is rejected as too long before the call. A hash
-/// above the default limits is not checked, and none is made with settings above them: status 5,
-/// and a line on `errors`. All else is as for `run`, but a second line may explain an error: for
-/// a usage error, it names the argument.
+/// The salt of `new` is given in hexadecimal digits, two of either case a byte. The password is all
+/// of `input`, at most 65536 bytes; a longer one is rejected as too long before the call. An
+/// encoded hash above the default limits is not checked, and `new` rejects settings above them:
+/// status 5, and a line on `errors`. All else is as for `run`, but a second line may explain an
+/// error; for a usage error, it names the argument.
 // Its frames have H0. It is never inlined, so that `start` may overwrite them.
 #[inline(never)]
 pub fn conclude<R: Threads + Wait + Sync, I: Read, O: Write, E: Write>(
@@ -68,9 +68,9 @@ pub fn conclude<R: Threads + Wait + Sync, I: Read, O: Write, E: Write>(
     }
 }
 
-/// Writes the result of the arguments' command, and returns the exit status or the fault, which
-/// tells the call's errors from an output that lacked memory (they share a status). Nothing was
-/// written unless the output failed.
+/// Writes the result of the arguments' command, and returns the exit status or the fault. The fault
+/// distinguishes an error of the call from an output that lacked memory; they share a status.
+/// Nothing was written unless the output failed.
 pub fn attempt<R: Threads + Wait + Sync, I: Read, O: Write>(
     rt: &R,
     alloc: Global,
@@ -132,7 +132,7 @@ fn write_bytes<O: Write>(output: &mut O, bytes: &[u8]) -> io::Result<()>
     ensures front { AppendsFront (O.contents output.old) (O.contents output.new) bytes.now }
 {
     let mut written = 0;
-    // The bound only lets the prover see an end: nobody tries so often.
+    // The bound only shows the prover that the loop ends: nobody tries so often.
     for _ in 0..u64::MAX {
         if written == bytes.len() {
             return Ok(());

@@ -17,10 +17,10 @@ const QUOTES: &str = "an encoded hash begins with $argon2, and needs single quot
 const LIMITS: &str = "check and new take at most \
     2 GiB, 10 passes, 16 lanes and the work of 4 GiB in one pass\n";
 
-/// A program, each with commands of its own.
+/// The programs. Each has commands of its own.
 #[derive(Clone, Copy, Debug, Eq, PartialEq)]
 pub enum Program {
-    /// `argon2`: `hash`, `verify` and `rehash`.
+    /// `argon2_program`: `hash`, `verify` and `rehash`.
     Argon2,
 
     /// The tool that the shell's script runs: these, `new` and `check`.
@@ -52,7 +52,7 @@ pub enum Kind {
     Text,
 }
 
-/// A usage error: why arguments are those of no command.
+/// A usage error: why the arguments are no command.
 #[derive(Clone, Copy, Debug, Eq, PartialEq)]
 pub enum UsageError {
     /// The first argument names no command, or there is none.
@@ -66,8 +66,8 @@ pub enum UsageError {
 }
 
 impl UsageError {
-    /// The name of a program's command whose arguments are what they have to be, or what is wrong
-    /// with them.
+    /// The name of a program's command, if its arguments are what they have to be; otherwise what
+    /// is wrong with them.
     pub(crate) fn check(program: Program, words: &[String]) -> Result<Name, UsageError>
         ensures { MatchResult result (AreRight program (texts_of words.now))
             (IsUsageError program (texts_of words.now)) }
@@ -137,7 +137,7 @@ impl Name {
         }
     }
 
-    /// How many arguments the user of the shell's script names: it adds the salt of `new`.
+    /// The arguments that a user of the shell's script passes. The script adds the salt of `new`.
     fn takes(self) -> &'static str {
         match self {
             Name::New => "new takes VARIANT VERSION T M P LEN MODE, or nothing",
@@ -208,8 +208,8 @@ pub(crate) fn number_of(word: &str) -> Option<u32>
     word.parse::<u32>().ok()
 }
 
-/// Writes the line of a fault, and what the tool adds to it, and returns the exit status. There are
-/// no words where an argument is not UTF-8.
+/// Writes the line of a fault, and what the tool adds to it, and returns the exit status. If an
+/// argument is not UTF-8, `words` is None.
 pub(crate) fn tell<E: Write>(
     program: Program,
     words: Option<&[String]>,

@@ -91,7 +91,7 @@ pub fn log_in_with_pepper<R: Threads + Wait + Sync>(
     verify_encoded_ext(rt, alloc, kept, password, pepper, user)
 }
 
-/// The key of a password: the one tag that the definitions have, or an error, and never another key.
+/// The key of a password: the one tag that the definitions give, or an error, and never another key.
 pub fn derive(
     alloc: Global,
     password: &[u8],

@@ -95,7 +95,7 @@ fn fill_lane(
 
 /// How the lanes of a slice are filled.
 pub trait SliceFilling {
-    /// What is to be shown where it is used.
+    /// What a caller has to prove before it uses the filling.
     ghost can_fill: { Type 0 };
 
     /// Fills the job's slice, beside the other three in rising order.
@@ -144,8 +144,8 @@ impl SliceFilling for InTurn {
     }
 }
 
-/// Fills the job's slice of four. They come as four references, since one is written while the
-/// others are read. Those keep their rising order, by which the blocks in them are found.
+/// Fills the job's slice of the four. They are four references, since one slice is written while
+/// the others are read. The others keep their rising order, by which their blocks are found.
 fn fill_one_of_four<F: SliceFilling>(
     filling: &F,
     job: &Job,

@@ -94,7 +94,8 @@ pub fn write_first_block(job: &Job, lane: u32, column: u32, block: &mut Block)
         (record { pass = 0; lane = lane; column = column }) }
 {
     let mut seed = [0; PREHASH_SEED_LENGTH];
-    // With H0 a password is tried at the cost of one hash, so each copy of it is overwritten.
+    // Whoever has H0 can try a password at the cost of one BLAKE2b hash, so each copy of H0 is
+    // overwritten.
     let mut prehash = prehash_of_job(job);
     first_input(&prehash, lane, column, &mut seed);
     wipe(&mut prehash, 0);
@@ -105,7 +106,8 @@ pub fn write_first_block(job: &Job, lane: u32, column: u32, block: &mut Block)
     wipe(&mut bytes, 0);
 }
 
-/// Writes a lane's first two blocks. The memory hands out none to be written, so they are copied.
+/// Writes a lane's first two blocks. They are copied, since the memory lends no block to be
+/// written.
 fn write_first(job: &Job, lane: u32, memory: &mut Memory)
     requires shape { HasShape job.now.setting memory.old }
     requires lane_fits { lane < job.now.setting.lanes }
@@ -142,7 +144,8 @@ pub fn fill_sequential(context: &Context<'_>, memory: &mut Memory)
 {
     facts_of_context(context);
     let job = Job::new(context);
-    // Moved out, since a `Memory` has no place for a slice that is out, as each is while filled.
+    // Each slice is moved out while it is filled. A `Memory` has no place for that, so all slices
+    // move out here.
     let mut slices = take_slices(memory);
     fill_slices(&job, &mut slices);
     *memory = memory_of_slices(job.lanes(), job.segment_length(), slices);

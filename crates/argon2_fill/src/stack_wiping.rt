@@ -2,11 +2,11 @@
 
 use argon2_blocks::blake2b::wipe;
 
-/// How many words are written at once: more take fewer steps.
+/// How many words are written at once: with more words, fewer steps are needed.
 const WORDS: usize = 16;
 
-/// How many times so many are overwritten: 16 KiB, where a call takes less than 11, and a worker at
-/// most 16.
+/// How many pieces of that size are overwritten: 16 KiB in all. A call uses less than 11 KiB, and a
+/// worker at most 16.
 const PIECES_BELOW: usize = 128;
 
 /// Overwrites the stack below its caller, where the frames of calls that have returned held H0. It

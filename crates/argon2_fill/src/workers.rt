@@ -114,9 +114,9 @@ pub fn fill_parallel<R: Threads + Wait + Sync, G: Gate>(
     fill_parallel_with(rt, alloc, context, memory, gate, &AllPermitted)
 }
 
-/// Fills as `fill_parallel` does, by workers that have to be permitted. With w workers those of
-/// slice s in pass r have the w numbers from (4 r + s) w on, and the fill succeeds only where each
-/// number is permitted.
+/// Fills as `fill_parallel` does, by workers that have to be permitted. With w workers, those of
+/// slice s in pass r have the w numbers from (4 r + s) w on. The fill succeeds only if each number
+/// is permitted.
 pub fn fill_parallel_with<R: Threads + Wait + Sync, G: Gate, P: Permit>(
     rt: &R,
     alloc: Global,

@@ -275,8 +275,8 @@ impl Job {
         self.variant == Argon2i || self.variant == Argon2id && self.pass == 0 && self.slice < 2
     }
 
-    /// Whether a new block is combined with the one of the last pass, which version 0x10
-    /// overwrites.
+    /// Whether a new block is combined with that of the pass before. Version 0x10 overwrites it
+    /// instead.
     pub fn combines(&self) -> bool
         ensures { result ≡ (combines self.now.setting.version && nat_lt 0 self.now.pass) }
     {
@@ -301,8 +301,8 @@ pub fn numbered_job(job: &Job, number: u64) -> Job
     job.at((number / slices) as u32, (number % slices) as u32)
 }
 
-/// How many blocks from an index on are filled in one go: up to the next multiple of 128, since so
-/// many draw their words from one block of addresses.
+/// How many blocks from an index on are filled in one go: up to the next multiple of 128, since 128
+/// indexes share one address block.
 pub(crate) fn stretch(job: &Job, index: u32) -> u32
     requires { index < job.now.setting.segment_length }
     ensures some { 0 < result }

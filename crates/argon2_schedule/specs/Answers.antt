@@ -43,11 +43,11 @@ abbrev pub version_at : Bool → Version
 version_at true = Version13
 version_at false = Version10
 
--- as many workers as lanes for 0, else at most this many
+-- for 0 as many workers as lanes, for any other number at most that many
 abbrev pub mode_at : ℕ → ThreadMode
 mode_at threads = if threads == 0 then Parallel else AtMost threads
 
--- the configuration of these settings, with the secret and the associated data where they are
+-- the configuration of these settings, with borrows of the secret and the associated data
 abbrev pub config_at : Inputs → Bor (List ℕ) → Bor (List ℕ) → Config
 config_at x secret ad = record {
   ad = ad;
@@ -65,7 +65,8 @@ config_at x secret ad = record {
 abbrev pub Anywhere : List ℕ → List ℕ → (Bor (List ℕ) → Bor (List ℕ) → Type 0) → Type 0
 Anywhere secret ad Fact = (s a : Bor (List ℕ)) → s.now ≡ secret → a.now ≡ ad → Fact s a
 
--- the error of the settings table or, where there is none, what is made of the tag, or a resource error
+-- the error of the settings table or, if there is none, what `made` makes of the tag or a resource
+-- error
 abbrev pub Returns : Inputs → (Config → List ℕ → List ℕ) → Result (List ℕ) Error → Type 0
 Returns x made answer = Anywhere x.secret x.ad (λ s a. let config = config_at x s a in
     IsHash x.pwd x.salt config (may_lack_workers config) (λ value tag. value ≡ made config tag) answer)

@@ -22,7 +22,8 @@ job_vals x = array_val (byte_vals x.prehash) ∷ vint w32 x.variant ∷ vbool x.
 abbrev pub HashJobReturned : JobNumbers → ℕ → RattleType
 HashJobReturned x size = type_at (HashJob.signature (Param.number (memory_blocks (setting_at x))) (Param.number size) Runtime).result ([], ([], ([], tt)))
 
--- `hash_job_over_by_threads`, over just so many blocks: the tag of so many bytes. No resource error is possible
+-- `hash_job_over_by_threads` over exactly the job's blocks: the tag of `size` bytes. No resource error is
+-- possible
 abbrev pub JobUnderEverySchedule : Code → Type 0
 JobUnderEverySchedule code = (x : JobNumbers) → AreJobNumbers x → (size : ℕ) → 0 < size → size < 2 ^ 32
     → let numbers = memory_blocks (setting_at x) ∷ size ∷ [] in

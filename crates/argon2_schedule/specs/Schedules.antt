@@ -17,9 +17,10 @@ use Rattle.std.specs.contracts.rt.LibcRuntime
 use Rattle.argon2.specs.declared.limits.Limits.{Limits}
 use Rattle.argon2_schedule.specs.Answers.{Inputs, Stored}
 
--- In every program that has this code, from any memory and under every scheduler: the run of a host that makes this
--- call once is finite and no thread faults. Where it stops, no two threads are about to race and some thread can run,
--- waits or sleeps, or the call has returned a machine value for which the fact holds. The process does not exit.
+-- In every program that has this code, from any memory and under every scheduler, the run of a host that makes this
+-- call once is finite and no thread faults. Where it stops, either no two threads are about to race, and some thread
+-- can run, waits or sleeps, or the call has returned a machine value for which the fact holds. The process does not
+-- exit.
 abbrev pub EverySchedule : Code → Callee → List Val → (Val → Type 0) → Type 0
 EverySchedule code callee arguments Fact = (look : Symbol → Entry) → HasT look true code
     → Hosted true false false look (λ (_ : Unit {0}). callee) (call tt arguments stop) Fact
@@ -97,8 +98,8 @@ dict = impl [] tnil dnil
 abbrev pub instance_at : List ℕ → Args
 instance_at ns = Param.bounded (kinds ns) (type_arguments ns) (dcons dict (dcons dict dnil))
 
--- `EverySchedule` of a function by its name, on the runtime, the allocator, arrays of bytes, and other machine values;
--- its type arguments are the arrays' lengths, and other numbers
+-- `EverySchedule` of a function by its name. Its arguments are the runtime, the allocator, arrays of bytes, and other
+-- machine values; its type arguments are the arrays' lengths and other numbers
 abbrev pub OfCall : Code → (Args → Callee) → List (List ℕ) → List ℕ → List Val → (R : RattleType) → (R.Denot → Type 0) → Type 0
 OfCall code name inputs numbers others R Fact = EverySchedule code (name (instance_at (map length inputs ++ numbers)))
     (granted ∷ vstruct (vcons granted vnil) ∷ arrays inputs others) (StandsFor R Fact)

@@ -1,4 +1,4 @@
--- The theorems about every schedule. The code is what the prover has of a call and of all that it reaches.
+-- The theorems about every schedule. `code` is the prover's form of a call and of all that it reaches.
 use Rattle.std.specs.Prelude.{◌≡◌, ◌⊎◌, ℕ, ◌<◌, ◌^◌, Bool, List, [], ◌∷◌, ◌++◌, None, Err, IsUtf8, length}
 use denote.Array.{array_val}
 use denote.Laws.{Is}

@@ -1,5 +1,5 @@
--- The definitions of RFC 9106 above its hashes and its compression, and then those of encoded hashes, in the
--- order in which to read them. With those of `argon2_blocks` they are all that tags, verdicts and strings rest on.
+-- The definitions of RFC 9106 beyond BLAKE2b, H' and the compression, and those of encoded hashes, in reading
+-- order. With those of `argon2_blocks` they are all that tags, verdicts and strings rest on.
 pub mod Variant
 pub mod Version
 pub mod SettingsTable

@@ -1,7 +1,7 @@
-//! What takes minutes with the checks of `rt try`: the original documentation's example with its
-//! own settings, 64 MiB in 10 passes; and that a value is returned for each length and number of
-//! lanes up to some limits. A contract says which value; none says that there is no resource error
-//! if nothing is denied.
+//! Tests that take minutes with the checks of `rt try`: the original documentation's example with
+//! its own settings, 64 MiB in 10 passes, and all lengths and numbers of lanes up to some limits.
+//! Contracts say which value is returned. None says that there is no resource error if nothing is
+//! denied.
 
 ghost use Rattle.std.specs.Prelude.{◌<◌};
 
@@ -27,7 +27,7 @@ const LONGEST_OF_PAIRS: usize = 48;
 
 const MOST_LANES: u32 = 401;
 
-/// From so many on it takes long to verify too.
+/// With more lanes than this, verifying takes long too.
 const FEW_LANES: u32 = 40;
 
 /// A pass over the least memory.
@@ -110,7 +110,7 @@ fn both<R: Threads + Wait + Sync>(
 }
 
 #[test]
-fn each_length_of_an_input(rt: HostRuntime) -> Result<(), Fail> {
+fn inputs_of_each_length_verify(rt: HostRuntime) -> Result<(), Fail> {
     let alloc = rt.alloc();
     for length in 0..LONGEST {
         let input = &BYTES[..length];
@@ -146,7 +146,7 @@ fn each_length_of_an_input(rt: HostRuntime) -> Result<(), Fail> {
 }
 
 #[test]
-fn each_length_of_a_hash(rt: HostRuntime) -> Result<(), Fail> {
+fn hashes_of_each_length_verify(rt: HostRuntime) -> Result<(), Fail> {
     for hash_length in 4..1001u32 {
         let config = Config {
             hash_length,
@@ -159,7 +159,7 @@ fn each_length_of_a_hash(rt: HostRuntime) -> Result<(), Fail> {
 }
 
 #[test]
-fn each_pair_of_lengths(rt: HostRuntime) -> Result<(), Fail> {
+fn each_pair_of_password_and_salt_lengths_verifies(rt: HostRuntime) -> Result<(), Fail> {
     let config = least(1);
     for lengths in 0..LONGEST_OF_PAIRS * LONGEST_OF_PAIRS {
         let (password, salt) = (lengths / LONGEST_OF_PAIRS, 8 + lengths % LONGEST_OF_PAIRS);
@@ -170,7 +170,7 @@ fn each_pair_of_lengths(rt: HostRuntime) -> Result<(), Fail> {
 }
 
 #[test]
-fn each_number_of_lanes(rt: HostRuntime) -> Result<(), Fail> {
+fn each_number_of_lanes_verifies(rt: HostRuntime) -> Result<(), Fail> {
     for lanes in 1..MOST_LANES + 1 {
         let config = least(lanes);
         let is_right = if lanes < FEW_LANES {

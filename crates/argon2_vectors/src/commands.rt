@@ -10,11 +10,11 @@
 //! | `run/fails_once STEP REASON WORDS` | the input `password`, and an output whose first `write` or `flush` fails, for want of `memory` or for `another` reason |
 //! | `start ARGUMENT..` | the input `password`: the arguments, with the program's name, are looked at first |
 //! | `tool INPUT WORDS`, `tool/broken`, .. `tool/start` | the same of the shell's tool |
-//! | `arguments ARGUMENT..` | none: the words of these arguments are given, each behind how often it stands there in a row |
+//! | `arguments ARGUMENT..` | none: the answer is these words, each after how often it is repeated in a row |
 //!
-//! The answer of a run is its status, and what stands on the output and on the error stream; of a start
-//! only the last two. An argument is bytes, as in `line`; a number and `*` before it say how often it is
-//! repeated.
+//! The answer of a run is its status, and what it wrote to the output and to the error stream. The
+//! answer of a start is without the status. An argument is bytes, as in `line`; a number and `*` before
+//! it say how often it is repeated.
 
 use crate::line::{Words, bytes_of, repeated};
 use crate::streams::{Flaw, Input, Output, Started};
@@ -167,7 +167,7 @@ pub fn words_given(alloc: Global, words: &mut Words<'_>) -> Result<String> {
     }
 }
 
-/// How many words there are, and each word behind how often it stands there in a row.
+/// How many words there are, and each word after how often it is repeated in a row.
 fn counted(alloc: Global, words: &[String]) -> Result<String> {
     let mut text = format!(in alloc; "{}", words.len())?;
     let mut same = 0u32;

@@ -49,7 +49,8 @@ impl<'a> Words<'a> {
         bytes_of(alloc, self.word()?)
     }
 
-    /// The text that all others are, blanks included, or whose bytes follow `hex` in hexadecimal.
+    /// The text of all remaining words, with their blanks. After `hex`, its bytes follow in
+    /// hexadecimal.
     pub fn text(&mut self, alloc: Global) -> Result<String> {
         let Some(rest) = self.0.take() else {
             bail!("the text is missing");
@@ -60,7 +61,7 @@ impl<'a> Words<'a> {
         }
     }
 
-    /// What is left, to be cut by others.
+    /// The rest of the line, for other functions to cut.
     pub fn others(&mut self) -> &'a str {
         self.0.take().unwrap_or("")
     }
@@ -71,8 +72,8 @@ impl<'a> Words<'a> {
     }
 }
 
-/// The bytes of a word: none for `-`, text behind a `'`, else hexadecimal digits, in parts that are joined
-/// by `+` and may stand behind a number and `*`, which repeats them.
+/// The bytes of a word. `-` means none, and text follows a `'`. Otherwise they are hexadecimal digits, in
+/// parts that `+` joins; a number and `*` before a part repeat it.
 pub fn bytes_of(alloc: Global, word: &str) -> Result<Vec<u8>> {
     if word == "-" {
         return Ok(Vec::new(alloc));
@@ -96,7 +97,7 @@ fn add(bytes: &mut Vec<u8>, count: u32, piece: &[u8]) -> Result<()> {
     Ok(())
 }
 
-/// How often a part stands there, and the part, which may follow that number and `*`.
+/// How often a part is repeated, and the part. The number and `*` before it may be missing.
 pub fn repeated(part: &str) -> Result<(u32, &str)> {
     let Some((count, rest)) = part.split_once('*') else {
         return Ok((1, part));

@@ -30,7 +30,7 @@ pub fn answer(alloc: Global, call: &str, words: &mut Words<'_>) -> Result<String
     }
 }
 
-/// How a variant is shown, its place in the order by what comes before it, its names and its number.
+/// How a variant is shown, its names, its numbers, and whether it comes after Argon2d and Argon2i.
 fn variant(alloc: Global, read: argon2::Result<Variant>) -> Result<String> {
     let variant = match read {
         Ok(variant) => variant,

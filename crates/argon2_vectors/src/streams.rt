@@ -48,7 +48,7 @@ pub enum Flaw {
     Flush(ErrorKind),
 }
 
-/// A writer that takes all, but for its flaw.
+/// A writer that takes everything, except for its flaw.
 #[derive(Drop)]
 pub struct Output {
     pub taken: Vec<u8>,

@@ -1,4 +1,4 @@
-/* A call of the driver in every way in which it can go, each in a run of its own. The driver is the compiled one. This
+/* Runs a call of the compiled driver in every way in which it can go, each way in its own run. This
  * file replaces the system (platform.h), the heap, the proved calls, and the caller's pool and progress callback: it
  * chooses what happens, and watches what the driver does. It tries each choice in all ways, depth first.
  *
@@ -82,11 +82,11 @@ static _Alignas(64) block arena[4 * MOST_THREADS * LONG]; /* of which the first 
 enum kind { LINES, PAGES, BYTES, WORKERS };
 
 static struct run {
-    uint32_t code;            /* how the call is to end: nothing fails behind the first failure */
+    uint32_t code;            /* how the call is to end: nothing fails after the first failure */
     uint32_t begun, filled;   /* lanes, a bit for each */
     uint64_t stage, reported; /* slices that are filled, or are being filled, and those that were reported */
     bool is_finished, is_dirty, is_forked, is_caller_saved, is_pool_wrong;
-    uint32_t switches; /* how often another thread went on than had to */
+    uint32_t switches; /* how often it switched threads without need */
     size_t there;      /* bytes that were populated */
     struct taken {
         void *at;
@@ -192,7 +192,7 @@ static bool is_in_step(void)
     return !model.is_over && model.step <= 4 * (uint64_t)asked.passes;
 }
 
-/* Whether the thread that runs is in this step: another one than the caller's counts the steps that it has entered. */
+/* Whether the running thread is in this step. Each thread except the caller's counts the steps that it has entered. */
 static bool is_in(uint64_t step)
 {
     return current == 0 ? is_in_step() && step == model.step : step + 1 == model.entered[current];
@@ -244,7 +244,7 @@ static bool can_stop(void)
     return !model.is_over && (model.step == 4 * (uint64_t)asked.passes + 1 || are_workers_through() || is_idle);
 }
 
-/* Makes the moves that the thread that runs has made since it was looked at: as no other one ran, in one order. */
+/* Makes the moves of the running thread since the last look. No other thread ran, so their order is known. */
 static void look_at_moves(void)
 {
     const struct call *const call = model.call;
@@ -419,13 +419,13 @@ static size_t give_back(void *at, enum kind kind)
             return run.taken[i].len;
         }
     }
-    must(false, "what is freed was taken, and so");
+    must(false, "what is freed was allocated in the same way");
     return 0;
 }
 
 void *proved_driver_take_lines(size_t bytes)
 {
-    must(!asked.is_large && !asked.is_callers && bytes == arena_len(), "a little memory is the heap's");
+    must(!asked.is_large && !asked.is_callers && bytes == arena_len(), "little memory comes from the heap");
     return fails(PROVED_ARGON2_OUT_OF_MEMORY) ? NULL : take(arena, bytes, LINES);
 }
 
@@ -510,7 +510,7 @@ static void write_lane(uint64_t step, uint32_t lane)
 /* A step for a lane, which none has taken yet. */
 static void look_at_lane(uint32_t *lanes, uint32_t lane, uint32_t slice, block *own, size_t own_len)
 {
-    must(lane < asked.lanes && (*lanes >> lane & 1) == 0, "a lane that there is, once in a step");
+    must(lane < asked.lanes && (*lanes >> lane & 1) == 0, "an existing lane, once in a step");
     must(own == SLICE(slice) + lane * asked.segment && own_len == asked.segment, "a lane's own segment");
     *lanes |= 1u << lane;
     run.is_dirty = true;
@@ -521,7 +521,7 @@ uint32_t proved_argon2_job_begin(const proved_argon2_job *passed_job, uint32_t l
 {
     write_lane(0, lane);
     if (run.code != PROVED_ARGON2_OK) {
-        return PROVED_ARGON2_OK; /* (what other threads do behind a failure is nobody's) */
+        return PROVED_ARGON2_OK; /* (what other threads do after a failure does not matter) */
     }
     look_at_job(passed_job);
     must(run.stage == 0, "first blocks come first");

@@ -20,7 +20,7 @@ COMPILER = ('gcc', '-std=c11', '-O1', '-g', '-fsanitize=address,undefined', '-fn
 WRAPPED = [f'-Wl,--wrap={name}' for name in ('calloc', 'free')]
 # Lanes, threads and passes.
 CASES = list(itertools.product((1, 2, 3), (1, 2, 3), (1, 2)))
-# By threads and passes, how often another thread goes on than has to at most.
+# By threads and passes, how many switches of threads without need are allowed.
 SWITCHES = {(1, 1): 0, (1, 2): 0, (2, 1): 2, (2, 2): 2, (3, 1): 2, (3, 2): 1}
 # By lanes and threads, how many runs there are over all kinds of call, of one pass and of two.
 RUNS = {(1, 1): (4652, 73836), (1, 2): (4652, 73836), (1, 3): (4652, 73836),
@@ -102,6 +102,6 @@ def test_the_driver_names_each_move_of_the_models():
 def test_each_fault_is_found(found, name):
     assert DRIVER.count(FAULTS[name][0]) == 1, 'it cannot be planted'
     said = found(name)
-    assert said, 'it is in no run'
+    assert said, 'no run finds it'
     move, is_move, _ = name.partition(': ')
     assert not is_move or said.startswith(f'fault: {move};'), said

@@ -20,7 +20,7 @@ enum { HASH_RAW, HASH_ENCODED, VERIFY_RAW, VERIFY_ENCODED, WITHIN };
 enum { PASSWORD_HASH = WITHIN + 1, PASSWORD_VERIFY, HASH_OVER, VERIFY_OVER };
 enum { PASSWORD, SALT, SECRET, AD, VERIFIED, FIELDS }; /* the last is the hash or the text that is verified */
 
-/* The call, by which options, and how much of what is verified is open. */
+/* The call, its options, and how many bytes of what is verified are public. */
 static struct {
     uint32_t call, options, open;
     proved_argon2_settings settings;
@@ -57,9 +57,9 @@ static int tell_here(void *arg, uint64_t done, uint64_t all)
 /* No text is above these, but a call has to compare them. */
 static const proved_argon2_limits WIDEST = {UINT32_MAX, UINT32_MAX, UINT32_MAX, UINT64_MAX};
 
-/* A plain call, which computes a hash in one call of what is proved; one over a memory that serves question after
-   question; one in steps in this thread, which is told how far it is; one by four threads; and one over memory of this
-   program, which runs the tasks, one for each lane, and is told. */
+/* By number: a plain call, which makes one proved call; a call in a reusable buffer; one in steps in this thread, with
+   a progress callback; one by four threads; and one in memory of this program, with its pool, one task for each lane,
+   and its progress callback. */
 static proved_argon2_options REUSED = {.size = sizeof REUSED, .limits = &WIDEST};
 static const proved_argon2_options PROGRESS = {
     .size = sizeof PROGRESS, .limits = &WIDEST, .threads = 1, .progress = tell_here, .arg = &answer.calls_back};
@@ -114,8 +114,8 @@ static void hide_secrets(void)
     hide(&question.fields[VERIFIED].at[question.open], question.fields[VERIFIED].length - question.open);
 }
 
-/* The driver asks whether a stack is large enough, with a guard for which there is no memory. Valgrind rejects the
-   number, so each thread would get 1 GiB, which memcheck takes seconds to mark: so we ask nothing. */
+/* The driver tries which stack is large enough, with a guard for which there is no memory (room_for_variables). Under
+   valgrind each try fails, whatever the stack. So we reject the guard at once, as musl does. */
 int pthread_attr_setguardsize(pthread_attr_t *attributes, size_t size)
 {
     (void)attributes;

@@ -1,7 +1,7 @@
-"""Questions to calls.c, of the outside vectors, and what has to come of each: no report on the way to a tag or a text,
-and a tag, a text's letters or a verdict that is undefined, so that no branch has looked at it before the one here. Two
-branches look at the letters of a stored hash as a whole, as often as a text is read: whether all are ASCII, and whether
-they are base64. A block that is drawn from a block is reported at each place that finds or reads it (constant_time)."""
+"""Questions to calls.c from the vectors of others, and the expected answers: no report on the way to a tag or a text,
+and a tag, a text's letters or a verdict that are undefined, so that no branch has looked at them before the one here.
+Each reading of a stored hash has two branches on all its letters: whether they are ASCII, and whether they are base64.
+A block that another block selects is reported at each place that finds or reads it (test_constant_time.py)."""
 
 import base64
 import random
@@ -21,10 +21,10 @@ HASH_RAW, HASH_ENCODED, VERIFY_RAW, VERIFY_ENCODED = range(4)
 WITHIN, PASSWORD_HASH, PASSWORD_VERIFY, HASH_OVER, VERIFY_OVER = range(4, 9)
 OPTIONS = FRESH, REUSED, PROGRESS, THREADS, CALLER = range(5)
 OK, DECODING_FAIL, MISMATCH = 0, 19, 64
-# Which vectors are asked: those that write so many blocks at most, and one with more blocks than that in its memory;
-# and how much a verdict may cost, where each byte of a hash is changed alone.
+# Only vectors that write at most FEW_BLOCKS are asked, and one with more than MAPPED_BLOCKS in its memory. Each byte of
+# a hash is changed alone if the verdicts cost at most CHEAP.
 FEW_BLOCKS, MAPPED_BLOCKS, CHEAP = 640, 1024, 2048
-# In how many blocks, and in how many in all passes, several lanes have threads in C (proved_argon2_driver.c).
+# From how many blocks on, and from how many in all passes, C starts threads (proved_argon2_driver.c).
 OF_THREADS, IN_ALL_PASSES = 2048, 4096
 OF_A_TEXT = 4  # reports: of two branches, at two readings (whether it is accepted, and its job)
 CAPACITY = 4096
@@ -67,8 +67,8 @@ class Vector(NamedTuple):
 
 
 class Question(NamedTuple):
-    """A call of a vector; the code that has to come, and reports of branches; the hash or the text that is verified, or
-    has to be written, of which so much is open; and the options."""
+    """A call with a vector; the expected code and number of reported branches; the hash or text that is verified, or
+    that must be written; how many of its bytes are public (open); and the options."""
     call: int
     vector: Vector
     code: int = OK
@@ -88,8 +88,8 @@ class Question(NamedTuple):
         return self.vector.references() if self.code != DECODING_FAIL else 0
 
     def is_right(self, came, reads):
-        """A verdict is hidden, but not that a text is none. A tag is to its last bit, and each letter of a text's hash
-        in some bit, and nothing else is. Each reference is read at so many places."""
+        """A verdict is hidden, but not that a string is no encoded hash. Of a tag every bit is hidden, of an encoded
+        hash at least one bit of each letter of its tag, and nothing else. Each reference is read at `reads` places."""
         is_read = self.code != DECODING_FAIL
         calls_back = is_read and self.options in (PROGRESS, CALLER)
         expected = (self.branches + reads * self.references(), calls_back, self.code, is_read and self.verified != b'')

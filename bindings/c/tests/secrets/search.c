@@ -1,9 +1,9 @@
-/* Looks for pieces of what a program computes: when the program that it is preloaded into ends, through all memory that
-   can be written, the stacks of ended threads too, which the C library keeps; in what is freed; and at places of
-   returns, from which the program goes on, below the stack pointer and above it in the callers' frames. The file PLAN
-   has how many pieces there are, the places of calls that are left out, those of returns, and the pieces. It says how
-   often each is found: a row of `found`, the piece, and a number, on standard error. A Rattle program ends by _exit,
-   which runs no destructor. */
+/* It is preloaded into a program, and looks for pieces of what that computes: when the program ends, in all writable
+   memory, also in the stacks of ended threads that the C library keeps; in freed memory; and at returns of functions,
+   below the stack pointer and above it in the callers' frames. The file PLAN has the number of pieces, the places of
+   calls to leave out and of returns, and the pieces. On standard error it prints how often each piece is found: a row
+   of `found`, the piece, and a number. A Rattle program ends by
+   _exit, which runs no destructor. */
 #include <fcntl.h>
 #include <link.h>
 #include <malloc.h>
@@ -24,7 +24,7 @@ enum { LEFT, FREED, IN_CALLERS, AT_STOPS };
 extern void *const __libc_stack_end;
 extern __typeof__(free) __libc_free;
 
-/* What is sought, which words alone are compared with: a vector may be saved on the stack later. */
+/* A piece. Only words are compared with it: a vector might be saved on the stack later. */
 typedef struct __attribute__((packed, may_alias)) {
     uint64_t low, high;
 } piece;
@@ -74,8 +74,8 @@ __attribute__((noreturn)) static void tell_and_exit(int status)
     _Exit(status);
 }
 
-/* The program ends: a breakpoint, so that this is looked at from the signal's stack, whose frames do not stand where
-   those of the program stood. */
+/* The program ends with a breakpoint, so that the search runs on the signal's stack, and its frames overwrite none of
+   the program's. */
 __attribute__((noreturn, naked)) void _exit(int status)
 {
     (void)status;
@@ -119,7 +119,7 @@ static void change_program(void)
     close(memory);
 }
 
-/* The signal's stack is shared memory, of which the program has none, and so is no memory of it. */
+/* The signal's stack is shared memory. The program has no other, and no shared memory is searched. */
 __attribute__((constructor)) static void begin(void)
 {
     const int file = open(getenv("PLAN"), O_RDONLY);

@@ -3,9 +3,9 @@ the letters of a hash, in the four calls that hash and verify, within limits too
 by threads, and in steps over a memory of the caller, who runs their tasks; by both proved builds of the one archive.
 (valgrind knows no AVX-512. In the build for x86-64-v4 the compression alone is another: docs/CLAIMS.md says how it is
 shown to branch on its flag alone and to compute no address.) With Argon2i
-none may, on the way to a tag or a text and on the verdict on a hash, but for two branches on the letters of a stored
-hash. With Argon2d and Argon2id also the addresses may by which a block is found and read that is drawn from blocks, but
-no branch. Leaks that are planted in the library (plant_leak.py) and in its driver have to be reported, or else this
+none may, on the way to a tag, a text or a verdict on a hash, except two branches on the letters of a stored hash. With
+Argon2d and Argon2id the addresses may, too, by which a block that other blocks select is found and read, but no further
+branch. Leaks that are planted in the library (plant_leak.py) and in its driver have to be reported, or else this
 sees nothing. calls.c makes the calls, of cases.py. depends.txt has what each case may report.
 """
 

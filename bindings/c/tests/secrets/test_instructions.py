@@ -1,7 +1,7 @@
-"""What is seen of secrets from instructions alone, where memcheck does not look; not of addresses. What is proved of
-the library for C is made of instructions of a list, whose time does not depend on what they compute with, but for named
-divisions. Calls take the same instructions for each secret that is tried: those for ARM64 as qemu runs them one by
-one, Rattle's as many in the caller's thread as callgrind counts. A planted branch to a division has to be seen.
+"""Tests what instructions reveal of secrets, where memcheck does not look; addresses are not tested. The proved code of
+the library for C consists of instructions of a list, whose time does not depend on their operands, except for named
+divisions. Calls take the same instructions for each secret that is tried: on ARM64 the same ones, as qemu runs them;
+for Rattle the same number in the caller's thread, as callgrind counts. A planted branch to a division must be detected.
 """
 
 import hashlib
@@ -22,8 +22,8 @@ from toolchain import is_current
 
 PREFIX, QEMU = 'aarch64-linux-gnu-', 'qemu-aarch64-static'
 SECONDS, LEAST = 600, 100_000  # instructions that a call takes
-# Sums, exclusive ors, products, shifts, rotations and shuffles, moves, comparisons and jumps. Of those for ARM64 ARM
-# says so ("Data Independent Timing"), but of loads and stores, which take no longer for some data.
+# Sums, exclusive ors, products, shifts, rotations and shuffles, moves, comparisons and jumps. For ARM64, ARM
+# guarantees it ("Data Independent Timing"), except for loads and stores, which take no longer for some data.
 X86 = re.compile(
     r'v?p((add|sub)[bdwq]|and|xor[dq]?|or|ternlog[dq]|ro[lr][dq]'
     r'|mul(udq|ld)|maddwd|(max|min)ud|cmp(eq|gt)[bdq]|s[rl][la]v?[dwq]|shuf[bd]'
@@ -44,7 +44,7 @@ ARM64 = re.compile(
     r'|cmp|cmn|ccm[pn]|tst|cm(eq|hi|hs|ge|gt|le|lt|tst)|cs(el|inc|inv|neg|et|etm)|c(inc|inv|neg)|[us](max|min)[pv]?'
     r'|(ld|st)(n?p|u?rs?[bhw]?|ur|[1-4]r?)|adrp?|b(\.[a-z]+)?|bl|blr|br|ret|cbn?z|tbn?z|nop|brk')
 NEVER_STEADY = 'div divl idiv idivq divsd sqrtsd vdivps udiv sdiv fdiv frecpe fsqrt'.split()
-# How the products of the compression begin, without which it was not looked at.
+# Multiplications of the compression: an object without them was not examined.
 PRODUCT = re.compile('v?pmuludq|um(ull|lal)2?')
 # The other instructions, with how many there are: divisions by numbers of the settings. Those of a segment have the
 # lane that a block draws, which the address of the next one tells anyhow.

@@ -1,11 +1,11 @@
-"""Leaves each wipe out of machine code alone, where nothing behind it clears the stack, and has its absence seen.
+"""Leaves out each wipe alone in the machine code, with nothing after it that clears the stack, and checks that its
+absence is detected.
 
-A wipe is a call of `wipe` in a program: in calls.c over each build of the library for C, and in programs in Rattle
-that make the library's calls. With search.c preloaded a program stops at each return of its functions. Below the stack
-pointer, in the callers' frames, in what is freed or at the end more of what is sought has to be found than with all
-wipes, or the wipe is not missed. Calls of `wipe_stack` are left out meanwhile, and then judged likewise, and so are the
-driver's calls that clear, by tests/clearing.c. How many calls a function has, and which are not missed, is in
-wipes.txt.
+A wipe is a call of `wipe` in a program: calls.c with each build of the library for C, and programs in Rattle that make
+the library's calls. With search.c preloaded a program stops at each return of its functions. The wipe is missed if more
+pieces are found than with all wipes: below the stack pointer, in the callers' frames, in freed memory or at the end.
+Calls of `wipe_stack` are left out meanwhile, and then tested likewise; tests/clearing.c tests the driver's calls that
+clear. wipes.txt lists how many calls of each function are missed, and how many are not.
 """
 
 import os
@@ -66,7 +66,7 @@ IN_ONE_LANE, OF_A_CHAIN_IN_ONE_LANE = OURS._replace(lanes=1), OF_A_CHAIN._replac
 # Tests of each root call that takes no memory of the caller's, and of each that keeps one, which it drops.
 COUNT_OF_TESTS, TESTS = 25, re.compile(
     r'^(\S*\b(?:(?:hash_raw|hash_encoded|verify_raw)_(?:by(?:_two)?_workers|in_one_thread|sequential)(?:_argon2id)?'
-    r'|verify_encoded(?:_ext|_within)?(?:_sequential)?|\w+_in(?:_sequential)?_twice)_refused_in_turn): test$', re.M)
+    r'|verify_encoded(?:_ext|_within)?(?:_sequential)?|\w+_in(?:_sequential)?_twice)_denied_in_turn): test$', re.M)
 # Of each program, and of each function with what it calls: how many calls are missed, and how many are not.
 EXPECTED = defaultdict(dict)
 for programs, callee, functions, missed, others, *why in rows_of(CALLS.parent / 'wipes.txt'):
@@ -263,7 +263,7 @@ def runs_of_tests():
     names = TESTS.findall(run(program_of('argon2_tests'), '--list'))
     assert len(names) == COUNT_OF_TESTS
     for name in names:
-        vector = OF_16_LANES if name.endswith(':verify_encoded_refused_in_turn') else OF_RFC
+        vector = OF_16_LANES if name.endswith(':verify_encoded_denied_in_turn') else OF_RFC
         keeps_memory, has_threads = '_twice_' in name, not re.search('sequential|one_thread', name)
         blocks = blocks_of(vector) if keeps_memory or not has_threads else []
         freed = [what for what, _ in blocks if not keeps_memory]

@@ -106,7 +106,7 @@ func Hash(how How, in Inputs, s Settings, isEncoded bool, out []byte) uint32 {
 		secret, secretLen, data, dataLen, &settings, encoded, to, toLen))
 }
 
-// Verify compares a password with an encoded hash, if that is within the limits. It has its own salt.
+// Verify compares a password with an encoded hash, if that is within the limits. It does not use in.Salt.
 func Verify(how How, encoded string, in Inputs, l Limits) uint32 {
 	limits := C.proved_argon2_limits{
 		mem_cost: C.uint32_t(l.Memory), time_cost: C.uint32_t(l.Time), lanes: C.uint32_t(l.Lanes), work: C.uint64_t(l.Work),

@@ -28,8 +28,8 @@ class AsyncPasswordHasher:
     `BusyError` is also raised if the system denies the first thread; if it denies a later one, calls wait for the
     threads that there are.
 
-    By default, `concurrency` is the number of hashes that fit into the processors, with a lane each, and into a quarter
-    of the memory that this process may use. `waiting` is 16 times as many.
+    By default, `concurrency` is the number of processors divided by the lanes, or less if that many hashes need more
+    than a quarter of the memory that this process may use. `waiting` is 16 times as many.
 
     Cancelling a task takes its call out of the queue, or stops it after the slice that it computes. Then its place is
     free.

@@ -58,7 +58,7 @@ class Memory:
     """Reusable buffers for the blocks of hashes.
 
     There is one buffer for each call that runs at the same time. A buffer grows to what the largest call in it needed.
-    When a call ends, the buffers are freed that no call has used for a minute. If no call ends any more, the buffers
+    Each call, when it ends, frees the buffers that no call has used for a minute. Without further calls, the buffers
     stay until the `Memory` is deleted.
 
     A copy starts without buffers, and so does an unpickled one.

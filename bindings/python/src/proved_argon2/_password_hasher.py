@@ -240,7 +240,7 @@ class PasswordHasher:
         settings and a salt of this length, or the new hash cannot be computed. `renew_by` is another hasher, which
         makes the new hash.
 
-        Raises what `verify` raises, but for a wrong password.
+        Raises what `verify` raises, except for a wrong password.
         """
         try:
             self.verify(hash, password, progress=progress)
@@ -260,7 +260,7 @@ class PasswordHasher:
 
         Otherwise the time of a login would tell which users exist.
 
-        Raises what `verify` raises, but for a wrong password.
+        Raises what `verify` raises, except for a wrong password.
         """
         try:
             self.verify(self._hash_of_nobody(), password, progress=progress)

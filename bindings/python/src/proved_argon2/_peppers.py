@@ -61,7 +61,7 @@ class PepperedHasher:
         newest pepper and these settings, or the new hash cannot be computed.
 
         Raises `UnknownPepperError` if there is no pepper with this ID, and otherwise what `PasswordHasher.verify`
-        raises, but for a wrong password.
+        raises, except for a wrong password.
         """
         if key_id is not None and not isinstance(key_id, str):
             raise TypeError(f"'key_id' must be str or None, not {key_id.__class__.__name__}")
@@ -79,6 +79,6 @@ class PepperedHasher:
     ) -> "Literal[False]":
         """Take as long as verifying a hash of the newest pepper, and return `False`: for a user who does not exist.
 
-        Raises what `PasswordHasher.verify` raises, but for a wrong password.
+        Raises what `PasswordHasher.verify` raises, except for a wrong password.
         """
         return self._hashers[self.newest].verify_unknown(password, progress=progress)

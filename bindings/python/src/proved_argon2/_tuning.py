@@ -37,7 +37,7 @@ class Tuning(Record):
 
 
 def tune(milliseconds: float, memory_cost: int = DEFAULT_MEMORY_COST, parallelism: int = 1) -> Tuning:
-    """Find the strongest settings whose hash takes at most so many milliseconds on this machine.
+    """Find the strongest settings whose hash takes at most this number of `milliseconds` on this machine.
 
     The search finds as much memory as there is time for, up to `memory_cost` KiB, and then as many passes, within the
     default limits. It computes several hashes.

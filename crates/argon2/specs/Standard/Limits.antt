@@ -6,7 +6,8 @@ use Rattle.argon2.specs.declared.limits.Limits.{Limits}
 use Rattle.argon2.specs.declared.limits.Unverified.{Unverified}
 use Rattle.argon2.specs.declared.limits.Unverified.TheVariants.{TooCostly, Refused}
 
--- so much memory in KiB, so many passes or so many lanes, or the product of memory and passes, are above a limit
+-- whether this much memory in KiB, this many passes or lanes, or the product of memory and passes exceeds a
+-- limit
 abbrev pub are_exceeded : Limits → ℕ → ℕ → ℕ → Bool
 are_exceeded limits mem_cost time_cost lanes =
     nat_lt limits.mem_cost mem_cost || nat_lt limits.time_cost time_cost || nat_lt limits.lanes lanes || nat_lt limits.work (mem_cost * time_cost)
@@ -15,7 +16,7 @@ are_exceeded limits mem_cost time_cost lanes =
 abbrev pub is_too_costly : Limits → Spelled → Bool
 is_too_costly limits d = are_exceeded limits d.mem_cost d.time_cost d.parallelism
 
--- too costly, or else an answer of the call without limits
+-- TooCostly for a hash above the limits; otherwise an answer of the call without limits
 abbrev pub AnswersWithin : Bool → (Result Bool Error → Type 0) → Result Bool Unverified → Type 0
 AnswersWithin true Answers result = result ≡ Err TooCostly
 AnswersWithin false Answers (Ok same) = Answers (Ok same)

@@ -15,7 +15,7 @@ use Rattle.argon2_standard.specs.Standard.Outcome.{IsVerdict}
 abbrev pub MeetsRecurrence : Type 0
 MeetsRecurrence = (s : Setting) → IsSetting s → (at : Position) → IsPosition s at → block_at s at ≡ recurrence s (block_at s) at
 
--- and nothing else does
+-- and no other function of places does
 abbrev pub IsOnlySolution : Type 0
 IsOnlySolution = (s : Setting) → IsSetting s → (f : Blocks) →
     ((at : Position) → IsPosition s at → f at ≡ recurrence s f at) → (at : Position) → IsPosition s at → f at ≡ block_at s at
@@ -25,15 +25,15 @@ abbrev pub TagForgetsMode : Type 0
 TagForgetsMode = (pwd salt : List ℕ) (config : Config) (mode : ThreadMode) (len : ℕ) →
     tag_of pwd salt (record config { thread_mode = mode }) len ≡ tag_of pwd salt config len
 
--- neither the error nor the tag depends on the configuration's own field for the hash length, where
--- another length is judged
+-- the configuration's hash_length field changes neither the error nor the tag, since the length is
+-- given separately
 abbrev pub LengthIsTheHash : Type 0
 LengthIsTheHash = (pwd salt : List ℕ) (config : Config) (field len : ℕ) →
     (table_error (record config { hash_length = field }) (length pwd) (length salt) len ≡ table_error config (length pwd) (length salt) len)
     × (tag_of pwd salt (record config { hash_length = field }) len ≡ tag_of pwd salt config len)
 
--- the tag of any length is that long, and with the same inputs its verdict is true, where the
--- settings are accepted
+-- a tag of len bytes has this length. If the settings are accepted, its verdict with the same
+-- inputs is true, or a resource error occurs
 abbrev pub OwnTagVerifies : Type 0
 OwnTagVerifies = (pwd salt : List ℕ) (config : Config) (len : ℕ) →
     let tag = tag_of pwd salt config len in

@@ -51,12 +51,12 @@ items_of d =
     ∷ base64 d.salt
     ∷ base64 d.hash ∷ []
 
--- the encoded hash, said once more by its items
+-- the encoded hash, defined a second time, by its items
 abbrev pub IsJoinedItems : Type 0
 IsJoinedItems = (d : Spelled) → text_of d ≡ join_with_byte dollar (items_of d)
 
--- a string whose head decodes begins with a `$` and has four or five of them: its first item is
--- empty, and there are five or six
+-- a string whose head decodes begins with `$` and has four or five `$`, so it has five or six
+-- items, the first of which is empty
 pub record HasItems (text : List ℕ) : Type 0 where
   pub behind : List ℕ
   pub begins : text ≡ dollar ∷ behind
@@ -65,7 +65,8 @@ pub record HasItems (text : List ℕ) : Type 0 where
 abbrev pub HeadHasItems : Type 0
 HeadHasItems = (text : List ℕ) → HasHead text → HasItems text
 
--- one value, and two strings that decode to it: the written one, and one with every freedom of the format
+-- a value, and two strings that decode to it: the one that is written, and one that uses every freedom of
+-- the format
 abbrev pub example_value : Spelled
 example_value = record {
   variant = Argon2i;
@@ -86,14 +87,14 @@ SpellsExample = Spells
     (codes "$Argon2i$m=+4096,t=03,p=1$c2FsdDEyMzQ$MTIzNDU2Nzg5MDEyMzQ1Njc4OTAxMjM0NTY3ODkwMTI")
     example_value
 
--- what the numbers and bytes of a configuration and a salt keep to
+-- the ranges of the numbers and bytes of a configuration and a salt
 pub record IsInput (config : Config) (given_salt : List ℕ) : Type 0 where
   pub mem_cost : config.mem_cost < 2 ^ 32
   pub time_cost : config.time_cost < 2 ^ 32
   pub lanes : config.lanes < 2 ^ 32
   pub salt : IsBytes given_salt
 
--- the answer is that the hash is the tag, or a resource error
+-- the answer says that the hash is the tag, or it is a resource error
 abbrev pub IsVerified : Bool → Result Bool Error → Type 0
 IsVerified workers answer = MatchResult answer (λ same. IsTrue same) (IsResourceError workers)
 

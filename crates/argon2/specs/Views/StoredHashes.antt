@@ -9,8 +9,8 @@ use Rattle.std.specs.List.{fold, zip}
 
 -- ---- the configuration that an encoded hash is verified with
 
--- the configuration has the settings of a decoded hash, and this secret and associated data: all that a
--- verdict looks at
+-- the configuration has all that a verdict looks at: the settings of a decoded hash, and this secret
+-- and associated data
 pub record IsStoredConfig (d : Spelled) (given_secret given_ad : List ℕ) (config : Config) : Type 0 where
   pub variant : config.variant ≡ d.variant
   pub version : config.version ≡ d.version
@@ -35,7 +35,8 @@ IsAccepting None P (Err e) = ⊥
 abbrev pub max_workers : ℕ
 max_workers = 16
 
--- the configuration in use: few workers, and the length of the hash as far as the field holds it
+-- the configuration that the code uses: at most 16 workers, and the length of the hash, as far as
+-- it fits the field
 pub record IsConfigOf (d : Spelled) (secret ad : List ℕ) (config : Config) : Type 0 where
   pub stored : IsStoredConfig d secret ad config
   pub thread_mode : config.thread_mode ≡ (if nat_lt 1 d.parallelism then AtMost max_workers else Sequential)

@@ -63,8 +63,8 @@ pub fn verify_encoded_ext<R: Threads + Wait + Sync>(
 }
 
 /// Verifies as `verify_encoded_ext` does, in a reusable buffer of the caller: see `hash_raw_in`.
-// Its stack frame holds H0. It is never inlined, so that a call without a caller's buffer can
-// overwrite that.
+// Its stack frame holds H0. It is never inlined, so that a call that allocated its own buffer can
+// overwrite that frame.
 #[inline(never)]
 pub fn verify_encoded_in<R: Threads + Wait + Sync>(
     rt: &R,
@@ -110,8 +110,8 @@ pub fn verify_encoded_sequential(
 
 /// Verifies as `verify_encoded_ext` does, by a single-threaded call in a reusable buffer of the
 /// caller: see `hash_raw_in`.
-// Its stack frame holds H0. It is never inlined, so that a call without a caller's buffer can
-// overwrite that.
+// Its stack frame holds H0. It is never inlined, so that a call that allocated its own buffer can
+// overwrite that frame.
 #[inline(never)]
 pub fn verify_encoded_in_sequential(
     alloc: Global,

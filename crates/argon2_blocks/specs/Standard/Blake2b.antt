@@ -133,11 +133,11 @@ compress_f h m t is_last =
 
 -- ---- the hash (3.3)
 
--- dd: how many blocks a message fills. The empty one fills one (3.3).
+-- dd: how many blocks a message fills. The empty message fills one (3.3).
 abbrev pub block_count : List ℕ → ℕ
 block_count message = max 1 (div_ceil (length message) block_length)
 
--- d[i]: block number i, from 0, of the message, which zeros fill up (3.3)
+-- d[i]: block number i, from 0, of the message, padded with zeros (3.3)
 abbrev pub message_block : List ℕ → ℕ → List ℕ
 message_block message i =
     slice_range (message ++ replicate block_length 0)

@@ -45,7 +45,7 @@ row_words registers = flat_map (λ (x, y). x ∷ y ∷ []) registers
 abbrev pub Registers : Type 0
 Registers = List (List (ℕ × ℕ))
 
--- the eight rows where this register is in row j and column k (3.5)
+-- the eight rows, with `register` j k in row j and column k (3.5)
 abbrev pub registers_by : (ℕ → ℕ → ℕ × ℕ) → Registers
 registers_by register = map (λ j. map (register j) (range_with_len 0 8)) (range_with_len 0 8)
 

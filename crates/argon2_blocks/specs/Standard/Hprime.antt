@@ -19,12 +19,12 @@ hash_chain zero last before = blake2b last before
 hash_chain (suc n) last before =
     let v = blake2b whole_length before in take half_length v ++ hash_chain n last v
 
--- r, the number of the W, for a hash of more than 64 bytes: it is 1 at least (3.3)
+-- r, how many W a hash of more than 64 bytes has: at least 1 (3.3)
 abbrev pub chain_length : ℕ → ℕ
 chain_length len = div_ceil len half_length - 2
 
--- H' of len bytes, where len is T and the message is A. Up to 64 bytes it is one hash of LE32(T)
--- and A; else W 1, .., W r, and the 33 to 64 bytes that are left, V (r + 1) (3.3).
+-- H' of len bytes, where len is T and the message is A. Up to 64 bytes, H' is one hash of LE32(T)
+-- and A. Longer ones are W 1, .., W r, and then V (r + 1), the remaining 33 to 64 bytes (3.3).
 unfoldable pub hprime : ℕ → List ℕ → List ℕ
 hprime len message =
     let input = to_le_bytes w32 len ++ message in

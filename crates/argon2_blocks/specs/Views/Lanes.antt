@@ -7,7 +7,7 @@ use Rattle.std.specs.Simd.Lanes.{pick_l}
 
 -- ---- a vector is the list of its lanes
 
--- the words that stand in lane i of each of the vectors
+-- the words in lane i of the vectors, one for each vector
 abbrev pub lane : ℕ → List (List ℕ) → List ℕ
 lane i vectors = map (λ vector. slice_index vector i) vectors
 
@@ -43,7 +43,7 @@ spread_row vectors j =
     map (λ w. slice_index (nth_vector vectors (2 * (w / 4) + j / 2)) (4 * (j % 2) + w % 4))
     (range_with_len 0 16)
 
--- the first four of eight lists, and the others
+-- four lists of one function, and then four of another
 abbrev pub four_and_four : (ℕ → List ℕ) → (ℕ → List ℕ) → ℕ → List ℕ
 four_and_four first last k = if nat_lt k 4 then first k else last (k - 4)
 

@@ -12,12 +12,12 @@ use crate::common::BLAKE2B_OUT_LENGTH;
 /// How many bytes of each V but the last go into the hash: its first half, W.
 const HALF_LENGTH: usize = 32;
 
-/// r: how many V a hash of `len` bytes, more than 64, has before the last.
+/// r: how many V come before the last one in a hash of `len` bytes, more than 64.
 fn chain_length(len: usize) -> usize
     requires { 64 < len }
     ensures { result ≡ chain_length len }
 {
-    // Two less than the quotient rounded up, which is one less than that of `len - 1` rounded down.
+    // r is ceil(len / 32) - 2 (RFC 9106, 3.3), and ceil(len / 32) is floor((len - 1) / 32) + 1.
     (len - 1) / HALF_LENGTH - 1
 }
 
@@ -29,8 +29,8 @@ fn write_half_block(block: &mut [u64; 16], v: &[u8; BLAKE2B_OUT_LENGTH])
     fill(&mut block[8..], 0);
 }
 
-/// A chain's V, and what the next one is hashed by. It lives for the whole chain and is overwritten
-/// at its end, since wiping takes longer than a link.
+/// A V of the chain, and the buffers for hashing the next. One link serves the whole chain and is
+/// overwritten at its end, since wiping takes longer than computing a V.
 #[derive(Drop)]
 struct Link {
     /// V.

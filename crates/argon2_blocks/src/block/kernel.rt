@@ -3,7 +3,7 @@
 //! Four rows, and then four columns, are permuted at a time. Between the two steps only halves of
 //! vectors change places, and no block is transposed.
 //!
-//! The steps are inlined: a call for the permutation alone takes 15 to 20 % more time.
+//! The steps are inlined. If only the permutation were called, it would take 15 to 20 % more time.
 
 ghost use Rattle.std.specs.Prelude.{◌≡◌, ◌<◌, ◌≤◌, ◌+◌, ◌*◌, ℕ, length, take, if◌then◌else◌, bit_xor};
 ghost use Rattle.std.specs.Simd.Lanes.{zip2, Each1, chunk, put_chunk};
@@ -96,8 +96,9 @@ fn spread_rows(v: [u64x8; 8]) -> [u64x8; 8]
     ]
 }
 
-// The diagonals of each row's words as columns. Only how far the vectors turn against each other
-// counts, so 2 and 3 stay: a mix gives them last, and no shuffle has to wait for them.
+// The diagonals of each row's words as columns. Only the positions of the vectors relative to each
+// other matter. So vectors 2 and 3 stay: a mix computes them last, and no shuffle has to wait for
+// them.
 #[inline(always)]
 fn align_row_diagonals(v: [u64x8; 8]) -> [u64x8; 8]
     ensures { (j : ℕ) → j < 4 → spread_row result j ≡ diagonals (spread_row v j) }
@@ -178,8 +179,8 @@ fn right_halves(upper: &[u64x8; 8], lower: &[u64x8; 8]) -> [u64x8; 8]
     ]
 }
 
-// The diagonals of each column's words as columns. Vectors 2 and 3 stay, as for rows, and 6 and 7
-// change names alone, which takes no instruction.
+// The diagonals of each column's words as columns. Vectors 2 and 3 stay, as for rows. Vectors 6 and
+// 7 only swap names, which takes no instruction.
 #[inline(always)]
 fn align_column_diagonals(v: [u64x8; 8]) -> [u64x8; 8]
     ensures { (k : ℕ) → k < 4 → column (nth_vector result) k
@@ -247,7 +248,7 @@ fn join_halves(left: &[u64x8; 8], right: &[u64x8; 8]) -> [u64x8; 16]
     ]
 }
 
-// The exclusive or. It also says how long both are, so that the loops around it need not recall it.
+// The exclusive or. Its clauses also give the length of both vectors, so that callers need not.
 #[inline(always)]
 fn xor_lanes(x: u64x8, y: u64x8) -> u64x8
     ensures value { result ≡ zip2 bit_xor x y }
@@ -286,8 +287,8 @@ fn sum_at(x: &[u64; QWORDS_IN_BLOCK], y: &[u64; QWORDS_IN_BLOCK], k: usize) -> u
 
 // The exclusive or of two blocks, eight words to a vector.
 //
-// Neither this nor what stores the vectors has a loop: LLVM unrolls one for x86-64 alone, and keeps
-// what a loop goes through in memory, of which it makes copies (docs/DECISIONS.md has the times).
+// Neither this function nor `store` nor `store_onto` has a loop. LLVM unrolls loops only for
+// x86-64; otherwise it keeps and copies their vectors in memory (docs/DECISIONS.md has the times).
 #[inline(always)]
 fn sum(x: &[u64; QWORDS_IN_BLOCK], y: &[u64; QWORDS_IN_BLOCK]) -> [u64x8; VECTORS]
     ensures value { vector_words result ≡ xor x.now y.now }
@@ -367,8 +368,9 @@ fn store_onto_at(
     xor_lanes(xor_lanes(x[k], y[k]), old).copy_to_slice(&mut w[LANES * k..LANES * k + LANES]);
 }
 
-// Writes the exclusive or of two lists of vectors and of the old words. It is apart from `store`,
-// so that `with_xor` is looked at once a block, and old words are read only where they count.
+// Writes the exclusive or of two lists of vectors and of the old words. It is separate from
+// `store`, so that `with_xor` is tested once a block, and old words are read only if they are
+// needed.
 #[inline(always)]
 fn store_onto(x: &[u64x8; VECTORS], y: &[u64x8; VECTORS], w: &mut [u64; QWORDS_IN_BLOCK])
     requires left { Each1 (λ a. length a ≡ 8) x.now }

@@ -8,7 +8,8 @@ ghost use Rattle.argon2_blocks.specs.Views.Lanes.{half_round, lane, two_mixes};
 
 use std::simd::prelude::*;
 
-// What the type says of a vector. The prover learns it from the shift, which the compiler drops.
+// Tells the prover what a vector's type guarantees. It learns this from the shift, which the
+// compiler drops.
 #[inline(always)]
 pub(super) fn facts_of_vector(x: u64x8)
     ensures long { length x ≡ 8 }
@@ -55,8 +56,8 @@ fn rotate_by_32(x: u64x8) -> u64x8
     u64x8::from_le_bytes(swapped.to_le_bytes())
 }
 
-// Each lane rotated right by 24 bits, in two steps: of both a compiler for x86-64 makes one shuffle
-// of bytes, and of shifts alone it makes three instructions (docs/DECISIONS.md).
+// Each lane rotated right by 24 bits, in two steps. A compiler for x86-64 combines the two into one
+// shuffle of bytes; shifts alone would be three instructions (docs/DECISIONS.md).
 #[inline(always)]
 fn rotate_by_24(x: u64x8) -> u64x8
     ensures { result ≡ map (λ a. rotate_right w64 a 24) x }
@@ -78,7 +79,7 @@ fn rotate_by_16(x: u64x8) -> u64x8
 
 // Two mixes in each lane: of the vectors 0, 2, 4 and 6, and of the others.
 //
-// They go side by side, since each step of one waits for the step before. More than two at a time
+// They run side by side, since each step of a mix waits for its previous step. More than two mixes
 // do not fit into the registers (docs/DECISIONS.md has the times of one, two and four).
 #[inline(always)]
 pub(super) fn mix_two(v: [u64x8; 8]) -> [u64x8; 8]

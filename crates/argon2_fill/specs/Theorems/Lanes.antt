@@ -8,10 +8,10 @@ use Rattle.argon2_memory.specs.Views.Places.{Fills, HoldsSlice, IsReadySlice, Pl
 abbrev pub numbered : Setting → ℕ → Job
 numbered s n = record { setting = s; pass = n / 4; slice = n % 4 }
 
--- the blocks before slice number n, for each n: the first blocks are there; then slice after slice each
--- lane's segment is what its fill leaves, beside three slices that nobody writes meanwhile. A lane's
--- fill sees no other lane of its slice, so that the order of the lanes, or whether one waits for another,
--- is not said.
+-- for each n, the blocks before slice number n. At first each lane's first two blocks are there. Then,
+-- slice after slice, each lane's segment is what its fill leaves, while nobody writes the three other
+-- slices. A lane's fill reads no other lane of its slice, so the order of the lanes, and whether one
+-- waits for another, is left open.
 pub record IsRunOfLanes (s : Setting) (places : ℕ → Places) : Type 0 where
   pub setting : IsSetting s
   pub long : (slice lane : ℕ) → slice < 4 → lane < s.lanes → length (places 0 slice lane) ≡ s.segment_length

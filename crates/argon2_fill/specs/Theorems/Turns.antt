@@ -24,7 +24,8 @@ pub record IsTurn (s : Setting) (n lane : ℕ) (before after : Places) : Type 0 
   pub filled : Fills (numbered s n) lane before (before (n % 4) lane) (after (n % 4) lane)
   pub kept : (slice l : ℕ) → (slice ≢ n % 4) ⊎ (l ≢ lane) → after slice l ≡ before slice l
 
--- the blocks before slice number n, for each n: the first blocks are there; then slice after slice each lane has one turn
+-- for each n, the blocks before slice number n is filled: first each lane's first two blocks, then one turn of each
+-- lane in each slice
 pub record IsRunOfTurns (s : Setting) (places : ℕ → Places) : Type 0 where
   pub setting : IsSetting s
   pub long : (slice lane : ℕ) → slice < 4 → lane < s.lanes → length (places 0 slice lane) ≡ s.segment_length

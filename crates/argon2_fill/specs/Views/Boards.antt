@@ -80,13 +80,13 @@ abbrev pub and_then : Option (List Place) → Event → Option (List Place)
 and_then None event = None
 and_then (Some places) event = after_event event places
 
--- the states of the lanes after the events, which begin where every lane waits; for legal events only
+-- the states of the lanes after the events, if these are legal. At first every lane waits
 abbrev pub replay : ℕ → List Event → Option (List Place)
 replay lanes events = fold and_then (Some (replicate lanes Waiting)) events
 
 -- ---- what a board keeps of its lanes
 
--- the state of a lane of which the board keeps this
+-- the state of the lane of a slot
 abbrev pub place_in : Slot → Place
 place_in (slot.Waiting segment) = place.Waiting
 place_in slot.Out = place.Out
@@ -95,7 +95,7 @@ place_in (slot.Done segment) = place.Done
 abbrev pub board_of : Inside → BoardValue
 board_of b = record { job = b.job; places = map place_in b.slots.items; log = b.log.items }
 
--- a segment that waits is ready for its lane, and one that is done holds its blocks
+-- the segment of a waiting lane is ready to be filled, and that of a done lane holds its blocks
 abbrev pub IsSlot : Job → ℕ → Slot → Type 0
 IsSlot job lane (slot.Waiting segment) = IsReady job.setting job.pass job.slice lane segment.blocks
 IsSlot job lane slot.Out = Unit {0}
@@ -116,7 +116,7 @@ events_left place.Waiting = 2
 events_left place.Out = 1
 events_left place.Done = 0
 
--- and there is capacity for the events that are left, and for the finished slice
+-- a board: its lanes, with capacity for the remaining events and for the finished slice
 pub record IsBoard (b : Inside) : Type 0 where
   pub kept : AreLanes b.job b.next b.slots.items b.log.items
   pub log_room : vec_len b.log + sum_by events_left (map place_in b.slots.items) ≤ vec_capacity b.log
@@ -126,6 +126,6 @@ pub record IsBoard (b : Inside) : Type 0 where
 
 -- ---- the workers that a permit lets start
 
--- the numbers from the first on, as many as the count, are permitted
+-- the `count` numbers from `first` on are permitted
 abbrev pub PermitsAll : (ℕ → Bool) → ℕ → ℕ → Type 0
 PermitsAll permits first count = (k : ℕ) → k < count → permits (first + k) ≡ true

@@ -1,8 +1,9 @@
 //! The lanes of one slice, which workers claim and put back under one lock, and fill outside it.
 //! Each lane is in exactly one state: it waits, is out, or is done.
 //!
-//! Of what comes through a lock only the type's own facts are known. So the types of claims, filled
-//! lanes and boards state what the fill relies on, and what no type states is checked when it runs.
+//! Of a value that comes out of a lock, the prover knows only its type's own facts. So the types of
+//! claims, filled lanes and boards state what the fill relies on. What no type states is checked at
+//! run time.
 
 ghost use Rattle.std.specs.Prelude.{◌≡◌, ◌<◌, ◌↔◌, IfErr, IfOk, IsOk, ◌+◌, ◌*◌, ◌^◌, ◌≤◌, ◌++◌, ◌∷◌, [], IfNone, IfSome, IsTrue, None, OnErr, OnOk, Some, length, map, replicate, slice_get, slice_set, true};
 ghost use Rattle.argon2_fill.specs.Views.Boards.{IsReady-prop, AllDone, AreReady, HoldSlice, NoneOut, least_waiting, replay};
@@ -40,7 +41,7 @@ pub enum Event {
     Put(u32),
 }
 
-/// A lane's place, with its segment where the board has it.
+/// A lane's slot, which has its segment unless a worker has it.
 #[derive(Drop)]
 pub(crate) enum Slot {
     Waiting(Segment),
@@ -175,8 +176,8 @@ impl Model for Board {
     ghost invariant = { IsBoard };
 }
 
-/// A slot for each segment, which waits. The slots are reserved and then filled, since `collect`
-/// would try again with less where memory is denied.
+/// A waiting slot for each segment. The slots are reserved first, since `collect` would try again
+/// with less memory if an allocation is denied.
 fn waiting_slots(
     alloc: Global,
     segments: Vec<Segment>,
@@ -344,8 +345,8 @@ pub(super) fn put_lane<R: Wait>(rt: &R, board: &Mutex<Option<Board>>, filled: Fi
         .is_some_and(|board| board.put(filled).is_ok())
 }
 
-/// Whether a board is of the snapshot's job, and all its lanes are done: a board that came out of a
-/// lock may be any.
+/// Whether a board has the snapshot's job and all its lanes are done. It is checked, since a lock
+/// could return any board.
 pub(super) fn is_filled(board: &Board, snapshot: &Snapshot<'_>) -> bool
     ensures { IsTrue result ↔ ((board.now.job ≡ snapshot.now.job) × AllDone board.now.places) }
 {

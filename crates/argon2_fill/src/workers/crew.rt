@@ -53,8 +53,8 @@ fn all_permitted<P: Permit>(permit: &P, first: u64, count: u32) -> bool
 /// more workers it calls itself.
 const ROOM: usize = 32;
 
-/// The stack of a worker, in bytes. At most 16 KiB of it were used when measured, and `wipe_stack`
-/// takes little more. The rest is for a program's thread-locals and the calls of a gate.
+/// The stack of a worker, in bytes. It used at most 16 KiB when measured, and `wipe_stack` uses
+/// little more. The rest is for a program's thread-locals and the calls of a gate.
 const STACK: usize = 256 * 1024;
 
 /// One worker: it takes, fills and puts one lane after another, until none waits or a filling or a
@@ -62,8 +62,8 @@ const STACK: usize = 256 * 1024;
 // Its frames have H0. It is never inlined, so that `work_and_wipe` may overwrite them.
 #[inline(never)]
 fn work<R: Wait, G: Gate>(rt: &R, board: &Mutex<Option<Board>>, snapshot: &Snapshot<'_>, gate: &G) {
-    // Each lane goes out once, so these are takes enough. The prover needs a bound to see an end,
-    // and does not see the board behind the lock.
+    // Each lane goes out once, so no worker takes more lanes than there are. The prover needs this
+    // bound, since it does not see the board behind the lock.
     for _claim in 0..snapshot.job().lanes() {
         let Some(claim) = take_lane(rt, board) else {
             return;
@@ -110,8 +110,8 @@ fn try_to_start<'s, E, R: Wait + Sync, G: Gate, P: Permit>(
         .ok()
 }
 
-/// How often a start is tried before it counts as denied. Linux uncounts a thread a moment after
-/// its joiner goes on, so a start may be denied although the limit will allow it.
+/// How often a start is tried before it counts as denied. Linux still counts a joined thread for a
+/// moment, so a start may be denied although the limit will soon allow it.
 const TRIES: u32 = 100;
 
 /// The time between two tries, in milliseconds. A signal may end it early.
@@ -136,16 +136,16 @@ fn start<'s, E, R: Wait + Sync, G: Gate, P: Permit>(
         if handle.is_some() {
             return handle;
         }
-        // A parker that nobody unparks makes the pause, since a sleep would take a clock.
+        // A parker that nobody unparks pauses the thread, since a sleep would need a clock.
         Parker::new().park_timeout(rt, Duration::from_millis(PAUSE));
     }
     try_to_start(scope, rt, board, snapshot, gate, permit, number)
 }
 
-/// Starts the workers of `count` numbers from `first` on, waits for the end of each that was
-/// started, and says whether all were. If one is denied or not permitted, the others are still
-/// started, but those of this call are tried once each, since the result is an error anyway. Where
-/// there is no room for more handles, the remaining numbers get a call of their own.
+/// Starts the workers of the `count` numbers from `first` on, waits until all that were started
+/// have ended, and returns whether all were started. After one is denied or not permitted, the
+/// others of this call are tried once each, since the result is an error anyway. If `handles` is
+/// full, another call starts the remaining numbers.
 fn run_workers<'s, E, R: Threads + Wait + Sync, G: Gate, P: Permit>(
     scope: &Scope<'s, E>,
     rt: &'s R,
@@ -163,7 +163,7 @@ fn run_workers<'s, E, R: Threads + Wait + Sync, G: Gate, P: Permit>(
     for k in 0..count {
         let number = first + u64::from(k);
         // The others start before any of these is joined, so that all work at the same time. `&=`
-        // and not `&&`, since they start after a denied start too.
+        // and not `&&`: the others start even after a denied start.
         if handles.is_full() {
             all &= run_workers(scope, rt, board, snapshot, gate, permit, number, count - k);
             break;
@@ -177,8 +177,8 @@ fn run_workers<'s, E, R: Threads + Wait + Sync, G: Gate, P: Permit>(
         all &= handle.is_some();
         handles.push(handle);
     }
-    // A scope alone waits for no thread's end. Threads that linger would count against a limit of
-    // threads when those of the next slice start.
+    // A scope alone does not wait until a thread has ended. Lingering threads would count against a
+    // thread limit when those of the next slice start.
     for handle in handles {
         if let Some(handle) = handle {
             handle.join(rt);
@@ -188,9 +188,9 @@ fn run_workers<'s, E, R: Threads + Wait + Sync, G: Gate, P: Permit>(
 }
 
 /// Fills the lanes of a board by `workers` workers, at least one, and joins them. The board and the
-/// snapshot are of one job, and no lane is out, since nobody could put it back. The workers take
-/// and put lanes under one lock, and fill them outside it. The board comes back with all lanes
-/// done. A start that is denied is tried again, 100 times in all, a millisecond apart. If all tries
+/// snapshot must be of one job, and no lane may be out, since nobody could put it back. The workers
+/// take and put lanes under one lock, and fill them outside it. The board is returned with all
+/// lanes done. A denied start is tried again, 100 times in all, a millisecond apart. If all tries
 /// were denied, the call returns `WorkerRefused`, even if the others finished the slice. It
 /// allocates nothing of its own.
 pub fn fill_slice<R: Threads + Wait + Sync, G: Gate>(

@@ -190,7 +190,7 @@ fn fills_drawn_blocks_as_the_plain_compression_does(rt: HostRuntime) {
 
 // Expected values come from the compression written in Python.
 #[test]
-fn fills_a_block(rt: HostRuntime) {
+fn fills_a_block_as_python_does(rt: HostRuntime) {
     let prev = multiples_of(0x9E3779B97F4A7C15);
     let reference = multiples_of(0xC2B2AE3D27D4EB4F);
     let mut next = Block::zero();
@@ -252,7 +252,7 @@ fn reads_and_writes_the_lowest_byte_first(rt: HostRuntime) {
 }
 
 #[test]
-fn compares_copies_and_prints(rt: HostRuntime) -> Result<(), Fail> {
+fn a_block_is_compared_copied_and_printed_by_words(rt: HostRuntime) -> Result<(), Fail> {
     let mut one = multiples_of(3);
     let two = one.clone()?;
     assert!(rt; one == two);

@@ -59,10 +59,10 @@ fn writes_one_block_and_counts_it(rt: HostRuntime) -> std::result::Result<(), Fa
 
 // ---- what a block refers to. The positions of independent segments are rows of `argon2_vectors`
 
-/// The references of RFC 9106, 3.4.2, worked out by hand for two lanes and two blocks a segment: the first
-/// block of the third slice, in the second pass, may refer in another lane to the columns 6 and 7 of the
-/// first pass and to 0, 1 and 2 of its own. The greatest lower half of a word picks the first of them, and 0
-/// the last.
+/// The references of RFC 9106, 3.4.2, worked out by hand for two lanes and two blocks a segment. In the
+/// second pass, the first block of the third slice may refer in another lane to five blocks: the columns 6
+/// and 7 of the first pass, and 0, 1 and 2 of its own pass. The greatest lower half of a word picks the
+/// first of these blocks, and 0 the last.
 ///
 /// It does nothing when it runs. Its contract states the values, and the checker computes them.
 #[tactic(auto, unfolding(argon2_standard::specs::Standard::Reference::reference_set, argon2_standard::specs::Standard::Reference::pick))]
@@ -112,9 +112,9 @@ fn picks_among_the_blocks_of_another_lane(rt: HostRuntime) -> Tested<()> {
 
 // ---- the inputs that are hashed first, as the first block of a lane shows them
 
-// The bytes, in hexadecimal, that are hashed first for 2 lanes, a hash of 32 bytes, 256 KiB and 2
+// The bytes, in hexadecimal, that are hashed first, for 2 lanes, a hash of 32 bytes, 256 KiB and 2
 // passes of Argon2d in version 0x13, with `password` and `somesalt`. The first block of lane 1 is
-// made from their hash, the column 0 and the lane.
+// H' of H0, the column 0 and the lane.
 #[test]
 fn hashes_the_stated_inputs_first(rt: HostRuntime) -> Tested<()> {
     let alloc = rt.alloc();

@@ -199,7 +199,7 @@ fn check_putting(
 }
 
 #[test]
-fn hands_strangers_back(rt: HostRuntime) -> Tested<()> {
+fn returns_claims_and_lanes_of_another_job(rt: HostRuntime) -> Tested<()> {
     let alloc = rt.alloc();
     let (mut ours, _our_slices) = second_board(alloc, &Call::of_two_lanes())?;
     let another = Call {
@@ -217,7 +217,7 @@ fn hands_strangers_back(rt: HostRuntime) -> Tested<()> {
     Ok(())
 }
 
-/// Numbers of workers, but for one.
+/// Permits all numbers of workers except one.
 #[derive(Clone, Copy)]
 struct AllBut(u64);
 
@@ -248,7 +248,7 @@ fn starts_permitted_workers_alone(rt: HostRuntime) -> Tested<()> {
 
 // Whatever allocation is denied, the result is the board or that error.
 #[test]
-fn board_new_refused_in_turn(rt: HostRuntime) -> Tested<()> {
+fn board_new_denied_in_turn(rt: HostRuntime) -> Tested<()> {
     let alloc = rt.alloc();
     let board = match begin(alloc, &Call::of_four_lanes()) {
         Ok((job, mut slices)) => board_of(alloc, &job, &mut slices),
@@ -276,7 +276,7 @@ fn second_slice<R: Threads + Wait + Sync>(rt: &R, alloc: Global) -> Result<Vec<S
 
 // Whatever allocation or worker is denied, the result is the slice or that error.
 #[test]
-fn fill_slice_refused_in_turn(rt: HostRuntime) -> Tested<()> {
+fn fill_slice_denied_in_turn(rt: HostRuntime) -> Tested<()> {
     match second_slice(&rt, rt.alloc()) {
         Ok(segments) => {
             assert!(rt; segments.len() == 4);

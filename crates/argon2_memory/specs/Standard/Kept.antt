@@ -1,5 +1,5 @@
 -- What a call leaves in the memory that its caller keeps. Only the clauses of calls over a memory, and
--- `any_order`, use these, and none of them says anything of what the calls return.
+-- `any_order`, use these definitions. None of them says what a call returns.
 use Rattle.std.specs.Prelude.{◌≡◌, ◌⊎◌, ℕ, ◌/◌, ◌%◌, ◌-◌, ◌<◌, Bool, IsTrue, List, [], replicate, slice_index_or}
 use Rattle.argon2_standard.specs.Standard.Setting.{Setting, lane_length}
 use Rattle.argon2_standard.specs.Standard.Recurrence.{block_at}

@@ -31,7 +31,7 @@ pub record IsSchedule (s : Setting) (pass slice : ℕ) (order : List ℕ) : Type
   pub lanes_fit : AllByRecursion (λ lane. lane < s.lanes) order
   pub each_often : (lane : ℕ) → lane < s.lanes → count_by (λ l. l == lane) order ≡ blocks_in_slice s pass slice
 
--- the word that the block at a place draws from what the matrix holds
+-- the word that the block at a place draws, read from the matrix
 abbrev pub word_from : Setting → Matrix → Position → ℕ
 word_from s matrix at =
     if is_data_independent s.variant at.pass (slice_of s at.column) then address_word s at

@@ -32,7 +32,7 @@ pub record IsSnapshot (v : SnapshotValue) : Type 0 where
   pub beside : IsBeside v
   pub held : HoldOthers v.job (other_blocks v)
 
--- the slices by their numbers, where the first of the others stands in for the job's own
+-- four slices by number, in which the first of the other slices stands in for the job's own
 pub record IsAround (j : Job) (slices : List (List SegmentValue)) : Type 0 where
   pub beside : IsBeside (record { job = j; others = remove slices j.slice })
   pub count : length slices ≡ 4
@@ -57,15 +57,15 @@ block_seen v blocks lane column =
     let index = column % v.job.setting.segment_length in
     if slice == v.job.slice then slice_index_or blocks index [] else slice_index_or (other_blocks v slice lane) index []
 
--- a segment that is filled up to an index: below it are this pass's blocks, and from there on
--- those of the last pass
+-- a segment that is filled up to an index: the blocks below it are of this pass, and the others
+-- still of the pass before
 pub record IsFilledTo (j : Job) (lane index : ℕ) (blocks : List (List ℕ)) : Type 0 where
   pub count : length blocks ≡ j.setting.segment_length
   pub new : (k : ℕ) → k < index → slice_index_or blocks k [] ≡ segment_block j.setting j.pass j.slice lane k
   pub old : (last k : ℕ) → suc last ≡ j.pass → index ≤ k → k < j.setting.segment_length →
       slice_index_or blocks k [] ≡ segment_block j.setting last j.slice lane k
 
--- where the other slices hold their blocks, a segment that was filled up to the first index is filled up
--- to the end
+-- if the other slices hold their blocks, a segment that was filled up to `first` is then filled up to
+-- `end`
 abbrev pub FillsOn : SnapshotValue → ℕ → ℕ → ℕ → SegmentValue → SegmentValue → Type 0
 FillsOn v lane first end old new = IsSnapshot v → IsFilledTo v.job lane first old.blocks → IsFilledTo v.job lane end new.blocks

@@ -33,7 +33,7 @@ writes_in slices = sum_by slice_writes slices % 2 ^ 64
 abbrev pub writes : MemoryValue → ℕ
 writes m = writes_in m.slices
 
--- how many blocks the first n slices of a fill write: all of theirs, but for the first two of each lane
+-- how many blocks the first n slices of a fill write: all except the first two of each lane
 abbrev pub blocks_written : Setting → ℕ → ℕ
 blocks_written s n = s.lanes * (n * s.segment_length - (if n == 0 then 0 else 2))
 

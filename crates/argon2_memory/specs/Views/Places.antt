@@ -10,7 +10,7 @@ use Rattle.argon2_memory.specs.Standard.Kept.{SegmentValue, no_segment}
 abbrev pub Lanes : Type 0
 Lanes = ℕ → List (List ℕ)
 
--- and those of each slice
+-- the blocks of each lane in each slice
 abbrev pub Places : Type 0
 Places = ℕ → Lanes
 
@@ -32,17 +32,17 @@ blocks_of_lane s blocks lane = take s.segment_length (drop (lane * s.segment_len
 abbrev pub places_of_slices : Setting → List (List (List ℕ)) → Places
 places_of_slices s slices slice lane = blocks_of_lane s (slice_index_or slices slice []) lane
 
--- the place of a slice among the three that are not the job's
+-- the index of a slice among the three slices other than the job's
 abbrev pub rank_among : Job → ℕ → ℕ
 rank_among j slice = if nat_lt slice j.slice then slice else slice - 1
 
--- in three slices, by the numbers that they have among four with the job's
+-- the blocks in three slices, which are addressed by their numbers among all four
 abbrev pub among : Job → Places → Places
 among j three slice lane = three (rank_among j slice) lane
 
 -- ---- what they hold
 
--- each lane is as a pass over the slice needs it
+-- each lane is ready for a pass over the slice
 abbrev pub IsReadySlice : Setting → ℕ → ℕ → Lanes → Type 0
 IsReadySlice s pass slice lanes = (lane : ℕ) → lane < s.lanes → IsReady s pass slice lane (lanes lane)
 
@@ -50,19 +50,20 @@ IsReadySlice s pass slice lanes = (lane : ℕ) → lane < s.lanes → IsReady s 
 abbrev pub HoldsSlice : Setting → ℕ → ℕ → Lanes → Type 0
 HoldsSlice s pass slice lanes = (lane : ℕ) → lane < s.lanes → lanes lane ≡ segment_at s pass slice lane
 
--- in each lane the slices below the stated one hold the pass's blocks, and the others wait for it
+-- in each lane, the slices below `slice` hold the blocks of the pass, and the others are ready for
+-- it
 pub record AreFilledBelow (s : Setting) (pass slice : ℕ) (places : Places) : Type 0 where
   pub below : (k lane : ℕ) → k < slice → lane < s.lanes → places k lane ≡ segment_at s pass k lane
   pub above : (k lane : ℕ) → slice ≤ k → k < 4 → lane < s.lanes → IsReady s pass k lane (places k lane)
 
--- the slices beside the job's: the lower ones hold this pass's blocks, and the upper ones those of the last pass
+-- the slices beside the job's: the lower ones hold this pass's blocks, the upper ones those of the pass before
 pub record HoldOthers (j : Job) (places : Places) : Type 0 where
   pub lower : (slice lane : ℕ) → slice < j.slice → lane < j.setting.lanes → places slice lane ≡ segment_at j.setting j.pass slice lane
   pub upper : (slice lane last : ℕ) → j.slice < slice → slice < 4 → lane < j.setting.lanes → suc last ≡ j.pass →
       places slice lane ≡ segment_at j.setting last slice lane
 
--- what a fill of a lane's segment of the job's slice leaves there: where the other slices hold their
--- blocks, and the segment was as a fill needs it, the blocks of the job's pass
+-- a fill of a lane's segment of the job's slice leaves the blocks of the job's pass there, if the
+-- other slices hold their blocks and the segment was ready
 abbrev pub Fills : Job → ℕ → Places → List (List ℕ) → List (List ℕ) → Type 0
 Fills j lane places old new = HoldOthers j places → IsReady j.setting j.pass j.slice lane old → new ≡ segment_at j.setting j.pass j.slice lane
 

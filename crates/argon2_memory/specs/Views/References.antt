@@ -1,5 +1,5 @@
--- The references of blocks. Those of a data-independent segment depend on its place, the variant, the shape of the
--- memory and the number of passes alone, and on no password, salt or block (RFC 9106, 3.4.1.2).
+-- The references of blocks. Those of a data-independent segment depend only on its place, the variant, the shape
+-- of the memory and the number of passes, not on a password, salt or block (RFC 9106, 3.4.1.2).
 use Rattle.std.specs.Prelude.{◌≡◌, ℕ, ◌+◌, ◌-◌, ◌*◌, Bool, ◌==◌, nat_lt, if◌then◌else◌, List, [], map}
 use Rattle.std.specs.List.{range_with_len}
 use Rattle.argon2_standard.specs.declared.variant.Variant.{Variant}
@@ -28,7 +28,8 @@ reference_of j lane index = pick_of j lane index (drawn_word j.setting (block_at
 abbrev pub independent_reference : Job → ℕ → ℕ → ℕ × ℕ
 independent_reference j lane index = pick_of j lane index (address_word j.setting (position_of j lane index))
 
--- how many columns of a lane the last pass left, and how many elements the reference set has
+-- how many columns of a lane still hold blocks of the pass before; then how many elements the
+-- reference set has
 abbrev pub left_columns : Job → ℕ
 left_columns j =
     if j.pass == 0 then 0 else lane_length j.setting - (j.slice * j.setting.segment_length + j.setting.segment_length)
@@ -46,7 +47,7 @@ reference_set_column j position =
 
 -- ---- of a segment
 
--- the lane and column of each reference of a segment, by index, from 2 in the first slice
+-- the lane and column of each reference of a segment, by index, from 2 in the first slice of pass 0
 abbrev pub positions_in : Setting → ℕ → ℕ → ℕ → List (ℕ × ℕ)
 positions_in s pass slice lane =
     let first = first_written pass slice in
@@ -55,7 +56,7 @@ positions_in s pass slice lane =
     let chosen = pick s (address_word s at) at in
     (chosen.lane, chosen.column)) (range_with_len first (s.segment_length - first))
 
--- the same for a setting with no prehash and any version, since neither is looked at
+-- the same without a prehash and with any version, since the references depend on neither
 abbrev pub reference_positions_of : Variant → ℕ → ℕ → ℕ → ℕ → ℕ → ℕ → List (ℕ × ℕ)
 reference_positions_of variant lanes segment_length passes pass slice lane =
     let s : Setting = record {

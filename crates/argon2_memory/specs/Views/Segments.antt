@@ -22,8 +22,8 @@ segment_block s pass slice lane index =
 abbrev pub segment_at : Setting → ℕ → ℕ → ℕ → List (List ℕ)
 segment_at s pass slice lane = map (segment_block s pass slice lane) (range_with_len 0 s.segment_length)
 
--- a segment before a pass over it: in pass 0 its first two blocks, if it has them, and else what
--- the last pass left
+-- a segment before a pass over it: in pass 0 with the first two blocks, if it is in slice 0; later
+-- with the blocks of the pass before
 abbrev pub IsReady : Setting → ℕ → ℕ → ℕ → List (List ℕ) → Type 0
 IsReady s zero zero lane blocks = (length blocks ≡ s.segment_length) × (take 2 blocks ≡ take 2 (segment_at s 0 0 lane))
 IsReady s zero (suc slice) lane blocks = length blocks ≡ s.segment_length
@@ -42,7 +42,7 @@ with_block segment index block = record {
 abbrev pub zero_segment : ℕ → SegmentValue
 zero_segment length = record { blocks = replicate length zero_block; tally = 0 }
 
--- a segment of as many blocks, of zeros, none of which was written
+-- a segment of as many blocks, all zeros and none counted as written
 abbrev pub wiped_segment : SegmentValue → SegmentValue
 wiped_segment s = zero_segment (length s.blocks)
 
@@ -52,8 +52,8 @@ wiped_segment s = zero_segment (length s.blocks)
 abbrev pub with_zeros : List (List ℕ) → ℕ → List (List ℕ)
 with_zeros made zeros = made ++ replicate zeros zero_block
 
--- there is capacity for the zeros that are not made; where there are some, the last block that is made is
--- of zeros too, and is read in place of each of them
+-- there is capacity for the zeros that are not made yet. If there are any, the last block that is made is
+-- also zeros, and is read in place of each of them
 pub record IsMadeInPart (made : List (List ℕ)) (count capacity zeros : ℕ) : Type 0 where
   pub room : count + zeros ≤ capacity
   pub some : 0 < zeros → 0 < count

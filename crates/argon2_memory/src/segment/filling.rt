@@ -43,7 +43,7 @@ fn write_block<S: OtherBlocks, O: OwnBlocks>(
     own.write(index as usize, prev, reference, with_xor);
 }
 
-/// The block that a source names, where it is one of the segment's or another.
+/// The block that a source names: one of the segment's own, or another.
 fn named<'a, O: OwnBlocks>(own: &'a O, source: Source<'a>) -> &'a Block
     requires { IsBefore (length (O.seen own.now).blocks) source }
     ensures { result.now ≡ source_block (O.seen own.now).blocks source.entry }
@@ -74,7 +74,7 @@ fn dependent_word<S: OtherBlocks, O: OwnBlocks>(
     named(own, source_before(beside, lane, index))[0]
 }
 
-/// Fills some blocks from an index on whose references depend on the blocks, block after block.
+/// Fills `count` blocks from an index on, one after another, whose references depend on blocks.
 fn fill_dependent<S: OtherBlocks, O: OwnBlocks>(
     beside: &Beside<S>,
     lane: u32,
@@ -135,7 +135,7 @@ fn write_blocks<S: OtherBlocks, O: OwnBlocks>(
     }
 }
 
-/// Fills at most 128 blocks from an index on whose references depend on no block.
+/// Fills at most 128 blocks from an index on, whose references are data-independent.
 fn fill_independent<S: OtherBlocks, O: OwnBlocks>(
     beside: &Beside<S>,
     lane: u32,
@@ -164,8 +164,8 @@ fn fill_independent<S: OtherBlocks, O: OwnBlocks>(
     write_blocks(beside, lane, first, some, own);
 }
 
-/// Fills at most 128 blocks of a lane's segment of the job's slice, from an index on, where those
-/// below the index are there.
+/// Fills at most 128 blocks of a lane's segment of the job's slice, from an index on. The blocks
+/// below the index are filled already.
 fn fill_blocks<S: OtherBlocks, O: OwnBlocks>(
     beside: &Beside<S>,
     lane: u32,

@@ -70,8 +70,8 @@ impl<'a> OtherBlocks for [&'a [Block]; 4] {
     }
 }
 
-/// A job and the slices by their numbers, whatever their contents. Another slice stands in for the
-/// job's own, so that a block is found by the number alone, which may be drawn from the blocks.
+/// A job and four slices by number, whatever their contents. Another slice stands in for the job's
+/// own. So a block can be read by any slice number, even one that was drawn from blocks.
 #[derive(Drop)]
 pub(crate) struct Beside<S: OtherBlocks> {
     job: Job,
@@ -89,7 +89,7 @@ impl<S: OtherBlocks> Model for Beside<S> {
     ghost invariant = { λ b. IsAround b.job (S.seen b.job.setting b.slices) };
 }
 
-/// Three slices by their numbers, where the first of them stands in for the missing one.
+/// Four slices by number, made of three: the first stands in for the missing one.
 fn with_stand_in<T: Copy>(others: [T; 3], slice: u32) -> [T; 4]
     requires { slice < 4 }
     ensures count { length result ≡ 4 }
@@ -152,7 +152,7 @@ impl<S: OtherBlocks> Beside<S> {
         &self.job
     }
 
-    /// The block of another slice, and some block where the slice is the job's own.
+    /// The block of another slice. If the slice is the job's own, some other block.
     fn block(&self, slice: u32, lane: u32, index: u32) -> &Block
         requires slice_fits { slice < 4 }
         requires lane_fits { lane < self.now.job.setting.lanes }
@@ -163,9 +163,9 @@ impl<S: OtherBlocks> Beside<S> {
         self.slices.block(&self.job, slice, lane, index)
     }
 
-    /// The block at a lane and column, as the lane that is filled up to an index sees it. A block
-    /// of another slice is found in either case, so that the choice is one of two addresses and
-    /// needs no branch.
+    /// The block at a lane and column, as the lane that is filled up to an index sees it. The block
+    /// of another slice is looked up in either case, so that the choice is between two addresses
+    /// and needs no branch.
     pub(super) fn source(&self, lane: u32, column: u32, index: u32) -> Source<'_>
         requires lane_fits { lane < self.now.job.setting.lanes }
         requires column_fits { column < lane_length self.now.job.setting }

@@ -1,5 +1,5 @@
 //! The two kinds of segment: the blocks of one lane in one slice, in a memory or caller-provided.
-//! Their fields are private to this file, so that no block is made of others, or put there, uncounted.
+//! Their fields are private to this file, so that each block made or copied there is counted.
 
 ghost use Rattle.std.specs.Prelude.{◌≡◌, ◌+◌, ◌%◌, ◌^◌, ◌<◌, ◌≤◌, [], IfOk, length, replicate, slice_index_or, slice_set, vec_capacity, vec_len};
 ghost use Rattle.argon2_blocks.specs.Standard.Block.{zero_block};
@@ -13,9 +13,8 @@ use std::marker::Model;
 
 /// The blocks of one lane in one slice, and how many were written, modulo 2^64.
 ///
-/// Blocks of zeros are made late, one ahead of those that are to be written, so that the thread
-/// that fills a segment is the first to touch most of its memory. That one is read in place of all
-/// later zeros.
+/// Blocks of zeros are made late, so that the thread that fills a segment is the first to touch
+/// most of its memory. One more is made than is written, and is read in place of all later zeros.
 #[derive(Drop)]
 pub struct Segment {
     blocks: Vec<Block>,
@@ -46,8 +45,8 @@ pub enum Source<'a> {
     Other(&'a Block),
 }
 
-/// Makes blocks of zeros up to an index and, where there is one, the next, which is read in place
-/// of all zeros behind it.
+/// Makes blocks of zeros up to an index and, if the segment is longer, one more, which is read in
+/// place of all later zeros.
 fn make_up_to(blocks: &mut Vec<Block>, zeros: &mut usize, index: usize)
     requires in_part { IsMadeInPart blocks.old.items (vec_len blocks.old)
         (vec_capacity blocks.old) zeros.old }
@@ -65,7 +64,7 @@ fn make_up_to(blocks: &mut Vec<Block>, zeros: &mut usize, index: usize)
     }
 }
 
-/// The block that a source names, where it is one of these or another.
+/// The block that a source names: one of these, or another.
 fn named_among<'a>(before: &'a [Block], source: Source<'a>) -> &'a Block
     requires { IsBefore (length before.now) source }
     ensures { result.now ≡ source_block before.now source.entry }

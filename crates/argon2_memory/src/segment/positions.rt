@@ -15,8 +15,8 @@ use argon2_blocks::common::{ADDRESSES_IN_BLOCK, QWORDS_IN_BLOCK};
 /// nothing of what is drawn.
 const HALF: u64 = 1 << 32;
 
-/// 1 where a number is not below a bound, and else 0. It is a sum, since the compiler may make a
-/// branch of a comparison, and no branch is to look at what is drawn from blocks.
+/// 1 if a number is not below a bound, else 0. It is a sum: a compiler may turn a comparison into a
+/// branch, and no branch may depend on what is drawn from blocks.
 fn reaches(number: u32, bound: u32) -> u32
     ensures below { number < bound → result ≡ 0 }
     ensures reached { bound ≤ number → result ≡ 1 }
@@ -36,7 +36,7 @@ fn relative_position(size: u32, word: u64) -> u32
     size - 1 - back as u32
 }
 
-/// How many columns of a lane are still as the last pass left them.
+/// How many columns of a lane still hold blocks of the pass before.
 fn left_columns(job: &Job) -> u32
     ensures value { result ≡ left_columns job.now }
     ensures fits { result + job.now.slice * job.now.setting.segment_length +
@@ -51,8 +51,8 @@ fn left_columns(job: &Job) -> u32
     }
 }
 
-/// How many blocks the reference set of the block at an index has: in its own lane for 1, in
-/// another for 0. That is a factor and no `bool`, so that a lane that is drawn makes no branch.
+/// How many blocks the reference set of the block at an index has, in its own lane (`is_own` is 1)
+/// or in another (0). `is_own` is a factor and no `bool`, so that a drawn lane makes no branch.
 pub fn reference_set_size(job: &Job, is_own: u32, index: u32) -> u32
     requires is_bit { is_own < 2 }
     requires index_fits { index < job.now.setting.segment_length }

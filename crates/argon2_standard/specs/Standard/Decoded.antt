@@ -20,7 +20,8 @@ decoded_config d given_secret given_ad = record {
   version = d.version;
 }
 
--- all that was decoded but the salt, and the length of the hash, is as in the configuration
+-- the settings that were decoded, and the length of the hash, are those of the configuration; the
+-- salt is ignored
 pub record Agrees (d : Spelled) (config : Config) : Type 0 where
   pub variant : d.variant ≡ config.variant
   pub version : d.version ≡ config.version
@@ -29,6 +30,6 @@ pub record Agrees (d : Spelled) (config : Config) : Type 0 where
   pub lanes : d.parallelism ≡ config.lanes
   pub hash_length : length d.hash ≡ config.hash_length
 
--- something that was decoded is not as in the configuration
+-- some decoded setting, or the length of the hash, differs from the configuration
 abbrev pub Differs : Spelled → Config → Type 0
 Differs d config = Agrees d config → ⊥

@@ -1,6 +1,6 @@
--- Which strings decode to which value: a relation on whole strings. They are more than the PHC strings that are
--- written, as in rust-argon2: a name may have a capital, a number a plus and leading zeros, and the version may be
--- missing.
+-- Which strings decode to which value: a relation on whole strings. As in rust-argon2, it accepts more than the
+-- PHC strings that are written: a name may have a capital, a number a plus and leading zeros, and the version may
+-- be missing.
 use Rattle.std.specs.Prelude.{◌≡◌, ◌≢◌, ◌⊎◌, ℕ, ◌<◌, ◌^◌, List, [], ◌++◌, codes, Option, Some, None}
 use Rattle.std.specs.List.{AllByRecursion}
 use Rattle.std.specs.Str.Parse.{IsNumeral, digits_value}
@@ -41,7 +41,7 @@ text_of_pieces pieces =
 abbrev pub Lacks : ℕ → List ℕ → Type 0
 Lacks c text = AllByRecursion (λ b. b ≢ c) text
 
--- 16 or 19; without a version it is the older one: wider than the PHC string format
+-- 16 or 19. A missing version means 16
 abbrev pub IsVersion : Option (List ℕ) → Version → Type 0
 IsVersion None version = version ≡ Version10
 IsVersion (Some number) version = number ≡ version_text version

@@ -6,8 +6,8 @@ use Rattle.argon2_standard.specs.declared.config.Config.{Config}
 use Rattle.argon2_standard.specs.Standard.SettingsTable.{table_error}
 use Rattle.argon2_standard.specs.Standard.Tag.{tag_of}
 
--- a resource error, which comes only where the settings table has none: an allocation failed or, with
--- workers, a worker could not be started
+-- a resource error, which is possible only if the settings table has no error: an allocation failed
+-- or, with workers, a worker could not be started
 abbrev pub IsResourceError : Bool → Error → Type 0
 IsResourceError true e = (e ≡ OutOfMemory) ⊎ (e ≡ WorkerRefused)
 IsResourceError false e = e ≡ OutOfMemory

@@ -1,5 +1,5 @@
--- The blocks of Argon2 as a recurrence over passes, lanes and columns (RFC 9106, 3.2 and 3.4). There is
--- neither a memory here nor an order of work.
+-- The blocks of Argon2 as a recurrence over passes, lanes and columns (RFC 9106, 3.2 and 3.4). It has
+-- neither a memory nor an order of work.
 use Rattle.std.specs.Prelude.{ℕ, zero, suc, ◌+◌, ◌-◌, ◌*◌, ◌/◌, ◌%◌, Bool, true, false, ◌==◌, ◌&&◌, nat_lt, if◌then◌else◌, List, ◌∷◌, ◌++◌, replicate}
 use Rattle.std.specs.Prelude.{slice_index}
 use Rattle.std.specs.Int.{w32, to_le_bytes}
@@ -16,7 +16,7 @@ use Rattle.argon2_standard.specs.Standard.Reference.{is_data_independent, previo
 abbrev pub Blocks : Type 0
 Blocks = Position → List ℕ
 
--- whether the version combines a new block with the one of the last pass
+-- whether the version combines a new block with the old one of the pass before
 abbrev pub combines : Version → Bool
 combines Version10 = false
 combines Version13 = true
@@ -30,30 +30,30 @@ first_block s at =
 abbrev pub addresses_in_block : ℕ
 addresses_in_block = 128
 
--- how many words of zeros fill the seven numbers up to a block (3.4.1.2)
+-- how many zero words pad the seven numbers to a block (3.4.1.2)
 abbrev pub address_padding : ℕ
 address_padding = 121
 
--- the words that 128 indexes of a segment draw from no block: those from 128 * number on (3.4.1.2)
+-- the data-independent words of 128 indexes of a segment, from index 128 * number on (3.4.1.2)
 abbrev pub addresses : Setting → ℕ → ℕ → ℕ → ℕ → List ℕ
 addresses s pass lane slice number =
     let input = pass ∷ lane ∷ slice ∷ memory_blocks s ∷ s.passes ∷ variant_number s.variant ∷ (number + 1) ∷ replicate address_padding 0 in
     compress_g zero_block (compress_g zero_block input)
 
--- the word that a place draws from no block (3.4.1.2)
+-- the data-independent word of a place (3.4.1.2)
 unfoldable pub address_word : Setting → Position → ℕ
 address_word s at =
     let index = index_of s at.column in
     slice_index (addresses s at.pass at.lane (slice_of s at.column) (index / addresses_in_block)) (index % addresses_in_block)
 
--- the word that the block at a place draws its reference by (3.4.1)
+-- the word that chooses the reference of the block at a place (3.4.1)
 abbrev pub drawn_word : Setting → Blocks → Position → ℕ
 drawn_word s block at =
     if is_data_independent s.variant at.pass (slice_of s at.column) then address_word s at
     else slice_index (block (previous s at)) 0
 
--- the block that two blocks make in place of an old one: their compression or, with_xor, that combined
--- with the old one (3.2, step 6)
+-- the new block made from two blocks: their compression or, with_xor, the XOR of that and the old
+-- block (3.2, step 6)
 abbrev pub made_block : List ℕ → List ℕ → List ℕ → Bool → List ℕ
 made_block prev reference old with_xor =
     let new = compress_g prev reference in if with_xor then xor new old else new
@@ -70,8 +70,8 @@ abbrev pub recurrence : Setting → Blocks → Position → List ℕ
 recurrence s block at =
     if (at.pass == 0) && nat_lt at.column 2 then first_block s at else next_block s block at
 
--- the recurrence applied n times, from blocks of zeros. The recursion needs a number that falls; that the blocks
--- at the start do not count is the theorem `recurrence_law`.
+-- the recurrence applied n times, starting with blocks of zeros. The recursion needs a number that decreases.
+-- The theorem `recurrence_law` says that the blocks at the start do not matter.
 unfoldable pub unroll : Setting → ℕ → Blocks
 unroll s zero at = zero_block
 unroll s (suc n) at = recurrence s (unroll s n) at
@@ -80,7 +80,8 @@ unroll s (suc n) at = recurrence s (unroll s n) at
 abbrev pub rank : Setting → Position → ℕ
 rank s at = at.pass * lane_length s + at.column
 
--- B: the block at a place: the recurrence is applied once more than there are places before it. It meets the
--- recurrence, and no other function does (`recurrence_law`), so that `unroll` and `rank` need not be believed.
+-- B: the block at a place. The recurrence is applied once more than there are places before it in the lane. B
+-- meets the recurrence, and no other function does (`recurrence_law`), so `unroll` and `rank` need not be
+-- believed.
 unfoldable pub block_at : Setting → Blocks
 block_at s at = unroll s (suc (rank s at)) at

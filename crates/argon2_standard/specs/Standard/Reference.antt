@@ -7,20 +7,20 @@ use Rattle.argon2_standard.specs.declared.variant.Variant.{Variant}
 use Rattle.argon2_standard.specs.declared.variant.Variant.TheVariants.{Argon2d, Argon2i, Argon2id}
 use Rattle.argon2_standard.specs.Standard.Setting.{Setting, Position, lane_length, slice_of, index_of}
 
--- whether the words of a segment are drawn from no block (3.4.1)
+-- whether the words of a segment are data-independent (3.4.1)
 abbrev pub is_data_independent : Variant → ℕ → ℕ → Bool
 is_data_independent Argon2d pass slice = false
 is_data_independent Argon2i pass slice = true
 is_data_independent Argon2id pass slice = (pass == 0) && nat_lt slice 2
 
--- the block before the one at a place: for column 0 it is that lane's last of the pass before. A
--- lane's first two blocks are made from none (3.2).
+-- the previous block of the lane: for column 0, the lane's last block of the pass before. A lane's
+-- first two blocks have no use for it (3.2).
 abbrev pub previous : Setting → Position → Position
 previous s at =
     if at.column == 0 then record at { pass = at.pass - 1; column = lane_length s - 1 }
     else record at { column = at.column - 1 }
 
--- the columns of a pass from the first on and before the end, each beside the pass
+-- the columns of a pass from `first` up to, but without, `end`, each paired with the pass
 abbrev pub columns_between : ℕ → ℕ → ℕ → List (ℕ × ℕ)
 columns_between pass first end = map (λ column. (pass, column)) (range_with_len first (end - first))
 
@@ -33,10 +33,10 @@ columns_of_last_pass s (suc last) slice = columns_between last ((slice + 1) * s.
 abbrev pub without_last : List (ℕ × ℕ) → List (ℕ × ℕ)
 without_last xs = take (length xs - 1) xs
 
--- W: the reference set, which is the passes and columns of a lane that the block at a place may
--- refer to, in order: what the last pass left, the slices of this pass before the present one and, in
--- the own lane, the segment so far. The last of them is left out in the own lane, and for a segment's
--- first block (3.4.2).
+-- W: the reference set, the passes and columns of a lane that the block at a place may refer to, in
+-- order. They are what is left of the pass before, the slices of this pass before the present one
+-- and, in the own lane, the segment so far. In the own lane, and for the first block of a segment,
+-- the last element is left out (3.4.2).
 unfoldable pub reference_set : Setting → Position → ℕ → List (ℕ × ℕ)
 reference_set s at lane =
     let slice = slice_of s at.column in
@@ -54,7 +54,8 @@ relative_position n word =
     let y = n * x / 2 ^ 32 in
     n - 1 - y
 
--- the lane that the upper half of a word draws, but the own lane in the first slice (3.4.2)
+-- the lane that the upper half of a word draws; in the first slice of pass 0 it is the own lane
+-- (3.4.2)
 abbrev pub drawn_lane : Setting → ℕ → Position → ℕ
 drawn_lane s word at =
     if (at.pass == 0) && (slice_of s at.column == 0) then at.lane else high_half word % s.lanes

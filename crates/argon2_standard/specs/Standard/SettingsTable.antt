@@ -17,7 +17,7 @@ max_lanes = 16777215
 abbrev pub min_memory : ℕ
 min_memory = 8
 
--- the least length of a salt, in bytes: a limit of this crate, since RFC 9106 gives a salt none
+-- the least length of a salt, in bytes: a limit of this crate, since RFC 9106 sets none
 abbrev pub min_salt_length : ℕ
 min_salt_length = 8
 

@@ -15,7 +15,7 @@ lowercase_name Argon2d = codes "argon2d"
 lowercase_name Argon2i = codes "argon2i"
 lowercase_name Argon2id = codes "argon2id"
 
--- the other name that is read: wider than the PHC string format, which has lower case alone
+-- the other name that is accepted: wider than the PHC string format, which has only lower case
 abbrev pub capitalised_name : Variant → List ℕ
 capitalised_name Argon2d = codes "Argon2d"
 capitalised_name Argon2i = codes "Argon2i"

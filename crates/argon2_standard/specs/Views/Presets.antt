@@ -19,7 +19,7 @@ pub record IsPreset (kind : Variant) (memory time : ℕ) (config : Config) : Typ
   pub secret : config.secret.now ≡ []
   pub ad : config.ad.now ≡ []
 
--- how many workers fill this many lanes, where the caller's thread does not
+-- how many workers fill this many lanes, if the caller's thread does not fill them alone
 abbrev pub worker_count : ThreadMode → ℕ → ℕ
 worker_count Sequential lanes = 1
 worker_count Parallel lanes = lanes

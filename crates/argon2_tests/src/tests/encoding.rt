@@ -24,7 +24,7 @@ const TAG: [u8; 32] = [
 ];
 
 #[test]
-fn decode_string_refused_in_turn(rt: HostRuntime) -> Result<(), Fail> {
+fn decode_string_denied_in_turn(rt: HostRuntime) -> Result<(), Fail> {
     let answer = decode_string(rt.alloc(), TEXT).map(|decoded| {
         decoded.salt.as_slice() == b"somesalt".as_slice()
             && decoded.hash.as_slice() == TAG.as_slice()
@@ -33,7 +33,7 @@ fn decode_string_refused_in_turn(rt: HostRuntime) -> Result<(), Fail> {
 }
 
 #[test]
-fn encode_string_refused_in_turn(rt: HostRuntime) -> Result<(), Fail> {
+fn encode_string_denied_in_turn(rt: HostRuntime) -> Result<(), Fail> {
     let config = small(Variant::Argon2i, Version::Version13, 1);
     let context = Context::new(config, b"password", b"somesalt")?;
     let answer = encode_string(rt.alloc(), &context, &TAG);
@@ -81,7 +81,7 @@ pub const HEAD_FAULTS: [&str; 34] = [
 ];
 
 #[test]
-fn head_faults_refused_in_turn(rt: HostRuntime) -> Result<(), Fail> {
+fn head_faults_denied_in_turn(rt: HostRuntime) -> Result<(), Fail> {
     for text in HEAD_FAULTS {
         let answer = decode_string(rt.alloc(), text);
         assert!(rt; answer == Err(Error::DecodingFail), "{text}");

@@ -8,7 +8,7 @@ abbrev pub ◌>>=◌ : {A B : Type 0} → Option A → (A → Option B) → Opti
 None >>= f = None
 (Some x) >>= f = f x
 
--- what is behind a front
+-- the rest of a string that begins with `front`
 abbrev pub strip : List ℕ → List ℕ → Option (List ℕ)
 strip [] text = Some text
 strip (x ∷ front) [] = None
@@ -19,7 +19,7 @@ abbrev pub cut : ℕ → List ℕ → Option (List ℕ × List ℕ)
 cut mark [] = None
 cut mark (b ∷ text) = if b == mark then Some ([], text) else option_map (λ x. (b ∷ x.0, x.1)) (cut mark text)
 
--- behind a front, the piece that a mark ends, and what is after the mark
+-- if a string begins with `front`: the piece up to the next mark, and what is after the mark
 unfoldable pub piece : List ℕ → ℕ → List ℕ → Option (List ℕ × List ℕ)
 piece front mark text = strip front text >>= cut mark
 
@@ -31,7 +31,7 @@ version_behind text (Some rest) = cut dollar rest >>= λ x. Some (Some x.0, x.1)
 unfoldable pub version_piece : List ℕ → Option (Option (List ℕ) × List ℕ)
 version_piece text = version_behind text (strip (codes "v=") text)
 
--- all pieces, where the string has them: the hash is what is left, whatever stands in it
+-- all pieces, if the string has them. The hash is the whole rest, even if it has a `$`
 unfoldable pub pieces_of : List ℕ → Option Pieces
 pieces_of text = do
   name ← piece (codes "$") dollar text

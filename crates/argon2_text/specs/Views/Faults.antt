@@ -22,7 +22,7 @@ IsSomeItem text = (bytes : List ℕ) × IsItem text bytes
 abbrev pub SpellsSome : List ℕ → Type 0
 SpellsSome text = (d : Spelled) × Spells text d
 
--- the string is these pieces, and the salt has no `$`; the hash is all that is behind it, letters or not
+-- the string is these pieces, and the salt has no `$`. The hash is the whole rest, base64 or not
 pub record IsSplit (text : List ℕ) (pieces : Pieces) : Type 0 where
   pub whole : text ≡ text_of_pieces pieces
   pub salt : Lacks dollar pieces.salt

@@ -18,7 +18,8 @@ abbrev pub fault_of : ℕ → ℕ
 fault_of letter = 1 + reaches letter 44 + reaches letter 58 + reaches letter 91 + reaches letter 123
     - reaches letter 43 - reaches letter 47 - reaches letter 65 - reaches letter 97
 
--- how many faults a string has: bytes that are no letters, a letter alone, and bits behind the last byte
+-- how many faults a string has: bytes that are not base64, a single leftover letter, and bits after the
+-- last whole byte
 unfoldable pub faults_of : List ℕ → ℕ
 faults_of [] = 0
 faults_of (a ∷ []) = 1

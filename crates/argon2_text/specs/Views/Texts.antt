@@ -77,7 +77,7 @@ spelled_with h salt hash = record {
   hash = hash;
 }
 
--- and with none yet
+-- the same with an empty salt and hash
 abbrev pub settings_of : Head → Spelled
 settings_of h = spelled_with h [] []
 

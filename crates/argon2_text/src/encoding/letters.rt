@@ -1,8 +1,8 @@
 //! Base64 by sums, character by character.
 //!
-//! Caches show which place of a table was looked into, and times which way a branch went. So no
-//! branch looks at a character or a byte here. Whether all characters are right is gathered to the
-//! end and returned once.
+//! Caches show which entry of a table was read, and times show which way a branch went. So no
+//! branch here depends on a character or a byte. The faults of all characters are gathered and
+//! returned once, at the end.
 
 ghost use Rattle.std.specs.Prelude.{◌≡◌, ◌<◌, ◌↔◌, ◌*◌, ◌/◌, ℕ, IsTrue, List, length, ◌≤◌};
 ghost use Rattle.argon2_standard.specs.Standard.Grammar.{IsItem};
@@ -64,7 +64,7 @@ fn reaches(byte: u32, bound: u32) -> u32
     (byte + 256 - bound) / 256
 }
 
-/// The character of six bits, without a table, whose places the cache would show.
+/// The character of six bits. A table would show its index in the cache.
 pub fn letter(bits: u32) -> u8
     requires { bits < 64 }
     ensures { result ≡ letter_of bits }
@@ -92,7 +92,7 @@ fn fault(letter: u8) -> u32
     ensures few { result ≤ 1 }
 {
     let letter = letter as u32;
-    // In a range of characters, one more has begun than lies behind.
+    // Within a range of base64 characters, one more range has begun than has ended.
     let behind = reaches(letter, 44)
         + reaches(letter, 58)
         + reaches(letter, 91)

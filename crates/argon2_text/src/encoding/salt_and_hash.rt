@@ -61,7 +61,7 @@ pub fn put_hash(out: &mut [u8], at: usize, hash: &[u8])
     put_last_letters(out, at, rest);
 }
 
-/// Puts the characters of the bytes behind the last three, which fill the buffer.
+/// Puts the characters of the last 0 to 2 bytes at the end of a buffer.
 fn put_last_letters(out: &mut [u8], at: usize, tail: &[u8])
     requires few { length tail.now < 3 }
     requires room { at + unpadded_len (length tail.now) ≡ length out.old }
@@ -112,7 +112,7 @@ pub fn read_item(text: &[u8], item: &mut [u8])
     put_last_bytes(item, at, rest);
 }
 
-/// Puts the bytes of the characters behind the last group of four, which fill the buffer.
+/// Puts the bytes of the characters after the last group of four at the end of a buffer.
 fn put_last_bytes(out: &mut [u8], at: usize, tail: &[u8])
     requires few { length tail.now < 4 }
     requires room { at + 3 * length tail.now / 4 ≡ length out.old }

@@ -69,7 +69,7 @@ public final class Argon2Exception extends RuntimeException {
         return switch (number) {
             case BUSY -> "Too many hashes are computed at a time";
             case UNKNOWN_PEPPER -> "There is no pepper with this ID";
-            case INVALID_PEPPERS -> "The peppers are none, one is empty, or two have the same ID";
+            case INVALID_PEPPERS -> "There are no peppers, one is empty, or two have the same ID";
             case NOT_UNICODE -> "The password has half of a surrogate pair";
             default -> Native.message(number);
         };

@@ -22,7 +22,7 @@ import java.util.function.Supplier;
  * denies a thread, calls wait for the threads that there are.
  *
  * <pre>{@code
- * CompletableFuture<Verdict> login = queue.submit(() -> hasher.verifyAndUpdate(stored, password));
+ * CompletableFuture<Verdict<String>> login = queue.submit(() -> hasher.verifyAndUpdate(stored, password));
  * }</pre>
  */
 public final class HashQueue implements AutoCloseable {
@@ -38,7 +38,7 @@ public final class HashQueue implements AutoCloseable {
     /** The calls that compute or wait. */
     private final Set<Task<?>> tasks = ConcurrentHashMap.newKeySet();
 
-    /** A queue in which so many calls compute at a time, at least 1, and so many more wait. */
+    /** A queue in which {@code concurrency} calls compute at a time, at least 1, and {@code waiting} more wait. */
     public HashQueue(int concurrency, int waiting) {
         this(concurrency, waiting, IDLE);
     }
@@ -55,8 +55,8 @@ public final class HashQueue implements AutoCloseable {
     }
 
     /**
-     * {@return a queue that computes as many hashes at a time as fit into the processors, with a lane each, and into so
-     * many bytes of memory; at least one} 16 times as many calls wait.
+     * {@return a queue that computes {@code processors / lanes} hashes at a time, or fewer, so that they fit into
+     * {@code bytes} of memory; at least one} 16 times as many calls wait.
      */
     public static HashQueue of(Settings settings, long bytes) {
         long processors = Runtime.getRuntime().availableProcessors() / settings.lanes();
@@ -67,8 +67,8 @@ public final class HashQueue implements AutoCloseable {
 
     /**
      * Makes a call in a thread of the queue. Cancelling the future takes the call out of the queue, or stops its hash
-     * after the current slice; so does completing it in another way, as {@code orTimeout} does. What depends on the
-     * future should run elsewhere, as by {@code thenAcceptAsync}. Leave the password as it is until the future is done.
+     * after the current slice; so does completing it in another way, as {@code orTimeout} does. Run what depends on the
+     * future in other threads, as {@code thenAcceptAsync} does. Leave the password as it is until the future is done.
      * Throws {@link Argon2Exception#BUSY} if no more calls may wait.
      */
     public <T> CompletableFuture<T> submit(Supplier<T> call) {
@@ -81,9 +81,9 @@ public final class HashQueue implements AutoCloseable {
     }
 
     /**
-     * Does the same, and waits for what the call returns or throws. Interrupting the caller cancels the call. In a
-     * thread of this queue the call is made at once, in the place that the thread already has. Throws {@link
-     * Argon2Exception#STOPPED} if the queue is closed meanwhile.
+     * Does what {@link #submit} does, and waits for what the call returns or throws. Interrupting the caller cancels
+     * the call. In a thread of this queue the call is made at once, in the place that the thread already has. Throws
+     * {@link Argon2Exception#STOPPED} if the queue is closed meanwhile.
      */
     public <T> T run(Supplier<T> call) {
         if (Thread.currentThread() instanceof Worker worker && worker.queue() == this) {

@@ -1,7 +1,7 @@
 package proved.argon2;
 
 /**
- * The most that a stored hash may cost that is verified.
+ * The highest cost of a stored hash that is still verified.
  *
  * @param memory the memory in KiB
  * @param passes the passes over the memory

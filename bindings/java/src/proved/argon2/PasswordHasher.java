@@ -15,8 +15,8 @@ import java.util.function.Function;
  *
  * <p>Passwords are {@code char[]}, which are hashed as UTF-8, or {@code byte[]}. A call clears each copy that it makes
  * of a password, and leaves the caller's array as it is. It stops with {@link Argon2Exception#STOPPED} soon after its
- * thread is interrupted. A call blocks its thread, and also the carrier of a virtual thread: there, and to limit how
- * many hashes are computed at a time, make it by a {@link HashQueue}.
+ * thread is interrupted. A call blocks its thread, and also the carrier of a virtual thread. Make calls by a {@link
+ * HashQueue} in virtual threads, and to limit how many hashes are computed at a time.
  *
  * <p>Each call may throw an {@link Argon2Exception}. A wrong password is not an exception.
  *
@@ -136,7 +136,7 @@ public class PasswordHasher {
         return encoded(CharBuffer.wrap(password), this::hash);
     }
 
-    /** {@return what {@link #verify(String, char[])} does} For null it is {@link #verifyUnknown(char[])}. */
+    /** {@return what {@link #verify(String, char[])} does} For null or "" it is {@link #verifyUnknown(char[])}. */
     public final boolean matches(CharSequence password, String stored) {
         boolean isKnown = stored != null && !stored.isEmpty();
         return encoded(CharBuffer.wrap(password), bytes -> isKnown ? verify(stored, bytes) : verifyUnknown(bytes));

@@ -10,7 +10,7 @@ import java.util.Map;
  * <p>Store the ID beside the encoded hash, which does not contain the key. To replace a key, put a new one first.
  * Remove the old one once {@code verifyAndUpdate} has replaced all of its hashes.
  *
- * <p>A hash whose ID is null, so without a pepper, is rejected: otherwise whoever can write to the store could add a
+ * <p>A hash whose ID is null has no pepper, and is rejected: otherwise whoever can write to the store could add a
  * hash that needs no key. Use {@link #acceptUnpeppered} while a store still has such hashes.
  */
 public final class Peppers {

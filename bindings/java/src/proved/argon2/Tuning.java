@@ -13,7 +13,7 @@ import java.util.function.ToDoubleFunction;
  *
  * @param settings the settings
  * @param milliseconds the time of a hash, the least of several
- * @param load how many programs ran at a time in the last minute, if Linux reports it. Beside others hashes take longer
+ * @param load how many programs ran at a time in the last minute, if Linux reports it. Others make hashes slower
  */
 public record Tuning(Settings settings, double milliseconds, OptionalDouble load) {
     /** The least memory in KiB, and the least work, of OWASP's recommendations. */

@@ -12,7 +12,7 @@ import java.util.stream.IntStream;
 import org.junit.jupiter.api.Tag;
 import org.junit.jupiter.api.Test;
 
-/** What calls return for each number of the library, over one that returns the numbers that are set here. */
+/** What calls return for each number of the library, over a stub that returns the numbers set here. */
 @Tag("codes")
 class CodesTest {
     private static final byte[] PASSWORD = HashesTest.bytes("word");
@@ -111,7 +111,7 @@ class CodesTest {
         PasswordHasherTest.assertFails(Argon2Exception.DECODING_FAIL, () -> hasher.needsRehash("$argon2id$x"));
     }
 
-    /** (the second word is the length of the buffer, or -1) */
+    /** (the second value that was seen is the buffer's length, or -1) */
     @Test
     void aThreadOfAQueueComputesInItsBuffer() {
         PasswordHasher hasher = hasher();

@@ -21,7 +21,7 @@ final class Memory {
         return bytes;
     }
 
-    /** Whether bytes are anywhere in memory that can be written. Each is sought as its complement, which is here. */
+    /** Whether writable memory contains some bytes. Their complement is passed, so that this call adds no copy. */
     static boolean has(byte[] complement) throws IOException {
         byte[] chunk = new byte[CHUNK + complement.length];
         try (RandomAccessFile memory = new RandomAccessFile("/proc/self/mem", "r")) {

@@ -1,4 +1,4 @@
--- Accepted settings have some lanes, and few.
+-- Accepted settings have at least one lane, and fewer than 2^24.
 use Rattle.std.proofs.Common.{arith, refl, sym, ◌∙◌}
 use Rattle.argon2_standard.specs.Standard.SettingsTable.{min_salt_length}
 use Rattle.argon2_standard.proofs.Settings.{accepted}

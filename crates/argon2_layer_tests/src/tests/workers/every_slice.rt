@@ -1,4 +1,4 @@
-//! All slices under a gate that is new for each of them.
+//! All slices under one gate, which counts anew in each slice.
 
 ghost use Rattle.std.specs.Prelude.{IfOk};
 ghost use Rattle.argon2_memory.specs.Standard.Kept.{HasShape};
@@ -20,8 +20,8 @@ use std::sync::Wait;
 use std::sync::atomic::{AtomicU64, Ordering};
 use std::thread::Threads;
 
-/// Holds lane 0 of each slice in its filling until lane 1 was put, and lane 1 in its own until lane
-/// 0's was called: so two workers are in the filling of each slice at once.
+/// Holds lane 0 of each slice in its filling until lane 1 was put, and lane 1 until lane 0's
+/// filling has begun. So two workers fill each slice at once.
 #[derive(Drop)]
 struct EachSlice {
     begun: AtomicU64,
@@ -92,9 +92,9 @@ fn check_gate(rt: &impl Abort, gate: &EachSlice) {
     assert_eq!(rt; gate.fills.load(Ordering::SeqCst), 0x5555_5555_5555);
 }
 
-/// Fills twelve slices of two lanes by one of the two calls, in three passes: the first, the one
-/// that comes first of those like it, and another. It checks what the gate saw, and the tag, which
-/// is libargon2's.
+/// Fills twelve slices of two lanes by one of the two calls, in three passes: the first pass, the
+/// first of the later ones, and one more. It checks what the gate saw, and that the tag is
+/// libargon2's.
 fn check_every_slice<R: Threads + Wait + Sync + Abort>(
     rt: &R,
     alloc: Global,

@@ -13,8 +13,6 @@ use std::sync::Wait;
 use std::sync::atomic::{AtomicU64, Ordering};
 use std::thread::Threads;
 
-// ---- workers under gates that hold them back until others have come so far
-
 // ---- workers under a gate that holds one back until another has come so far
 
 /// How often a gate looks before it gives up.
@@ -30,8 +28,8 @@ pub(super) fn wait(word: &AtomicU64, number: u64, late: &AtomicU64) {
     late.store(1, Ordering::SeqCst);
 }
 
-/// Keeps lane 0 in its filling until the last lane was put, and lane 1 in its own until lane 0's
-/// was called.
+/// Holds lane 0 in its filling until the last lane was put, and lane 1 until lane 0's filling has
+/// begun.
 #[derive(Drop)]
 struct Hold {
     last: u32,
@@ -142,7 +140,7 @@ impl Gate for Meeting {
 }
 
 #[test]
-fn forty_workers_meet(rt: HostRuntime) -> Tested<()> {
+fn forty_workers_fill_at_once(rt: HostRuntime) -> Tested<()> {
     let config = Config {
         lanes: WORKERS,
         mem_cost: 320,
@@ -164,8 +162,8 @@ fn forty_workers_meet(rt: HostRuntime) -> Tested<()> {
 
 // ---- when a gate is told of a put
 
-/// Keeps lane 0 in its filling until lane 1's put is told, and the worker that is told of it until
-/// lane 2 is filled, which the other one takes once it has put lane 0.
+/// Holds lane 0 in its filling until the gate is told of lane 1's put. The worker that tells it
+/// waits until lane 2's filling has begun; the other worker takes lane 2 after it has put lane 0.
 #[derive(Drop)]
 struct Told {
     begun: AtomicU64,
@@ -197,7 +195,7 @@ impl Gate for Told {
 }
 
 #[test]
-fn tells_of_a_put_after_it_and_outside_the_lock(rt: HostRuntime) -> Tested<()> {
+fn a_put_is_reported_after_it_and_outside_the_lock(rt: HostRuntime) -> Tested<()> {
     let alloc = rt.alloc();
     let (board, slices) = second_board(alloc, &Call::of_four_lanes())?;
     let snapshot = snapshot_of(&board, &slices);

@@ -1,4 +1,4 @@
-//! Errors that come before any memory is allocated, so that each comes whatever is denied.
+//! Errors that are returned before any memory is allocated, whatever request is denied.
 
 use super::tell;
 use crate::tests::encoding::HEAD_FAULTS;
@@ -87,7 +87,7 @@ fn settings(row: &Row, thread_mode: ThreadMode) -> Config<'static> {
 }
 
 #[test]
-fn hashing_allocates_nothing_refused_in_turn(rt: HostRuntime) -> Result<(), Fail> {
+fn hashing_allocates_nothing_denied_in_turn(rt: HostRuntime) -> Result<(), Fail> {
     let alloc = rt.alloc();
     for row in &ROWS {
         let (salt, error) = (row.3, &row.5);
@@ -107,7 +107,7 @@ fn hashing_allocates_nothing_refused_in_turn(rt: HostRuntime) -> Result<(), Fail
 }
 
 #[test]
-fn verifying_a_tag_allocates_nothing_refused_in_turn(rt: HostRuntime) -> Result<(), Fail> {
+fn verifying_a_tag_allocates_nothing_denied_in_turn(rt: HostRuntime) -> Result<(), Fail> {
     let alloc = rt.alloc();
     for row in &ROWS {
         let (salt, error) = (row.3, &row.5);
@@ -125,7 +125,7 @@ fn verifying_a_tag_allocates_nothing_refused_in_turn(rt: HostRuntime) -> Result<
 
 // Whatever length the settings name.
 #[test]
-fn verifying_an_empty_tag_allocates_nothing_refused_in_turn(rt: HostRuntime) -> Result<(), Fail> {
+fn verifying_an_empty_tag_allocates_nothing_denied_in_turn(rt: HostRuntime) -> Result<(), Fail> {
     let alloc = rt.alloc();
     for hash_length in [0, 4, 32, u32::MAX] {
         let config = Config {
@@ -155,7 +155,7 @@ fn is_text_error<R: Threads + Wait + Sync>(
 }
 
 #[test]
-fn an_unspelled_text_allocates_nothing_refused_in_turn(rt: HostRuntime) -> Result<(), Fail> {
+fn a_string_of_no_hash_allocates_nothing_denied_in_turn(rt: HostRuntime) -> Result<(), Fail> {
     let config = small(Variant::Argon2i, Version::Version13, 1);
     for text in HEAD_FAULTS.iter().chain(&ITEM_FAULTS) {
         let is_error = is_text_error(&rt, rt.alloc(), text, &Error::DecodingFail);
@@ -167,7 +167,7 @@ fn an_unspelled_text_allocates_nothing_refused_in_turn(rt: HostRuntime) -> Resul
 }
 
 #[test]
-fn a_refused_text_allocates_nothing_refused_in_turn(rt: HostRuntime) -> Result<(), Fail> {
+fn a_rejected_string_allocates_nothing_denied_in_turn(rt: HostRuntime) -> Result<(), Fail> {
     for (text, error) in &REJECTED {
         assert!(rt; is_text_error(&rt, rt.alloc(), text, error), "{text}");
     }

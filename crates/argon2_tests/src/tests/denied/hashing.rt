@@ -50,82 +50,82 @@ fn encode<R: Threads + Wait + Sync>(
 }
 
 #[test]
-fn hash_raw_by_workers_argon2d_refused_in_turn(rt: HostRuntime) -> Result<(), Fail> {
+fn hash_raw_by_workers_argon2d_denied_in_turn(rt: HostRuntime) -> Result<(), Fail> {
     tell(&rt, hash(&rt, rt.alloc(), Argon2d, Parallel))
 }
 
 #[test]
-fn hash_raw_by_two_workers_argon2d_refused_in_turn(rt: HostRuntime) -> Result<(), Fail> {
+fn hash_raw_by_two_workers_argon2d_denied_in_turn(rt: HostRuntime) -> Result<(), Fail> {
     tell(&rt, hash(&rt, rt.alloc(), Argon2d, AtMost(2)))
 }
 
 #[test]
-fn hash_raw_in_one_thread_argon2d_refused_in_turn(rt: HostRuntime) -> Result<(), Fail> {
+fn hash_raw_in_one_thread_argon2d_denied_in_turn(rt: HostRuntime) -> Result<(), Fail> {
     tell(&rt, hash(&rt, rt.alloc(), Argon2d, Sequential))
 }
 
 #[test]
-fn hash_raw_sequential_argon2d_refused_in_turn(rt: HostRuntime) -> Result<(), Fail> {
+fn hash_raw_sequential_argon2d_denied_in_turn(rt: HostRuntime) -> Result<(), Fail> {
     tell(&rt, hash_sequential(rt.alloc(), Argon2d))
 }
 
 #[test]
-fn hash_raw_by_workers_argon2i_refused_in_turn(rt: HostRuntime) -> Result<(), Fail> {
+fn hash_raw_by_workers_argon2i_denied_in_turn(rt: HostRuntime) -> Result<(), Fail> {
     tell(&rt, hash(&rt, rt.alloc(), Argon2i, Parallel))
 }
 
 #[test]
-fn hash_raw_by_two_workers_argon2i_refused_in_turn(rt: HostRuntime) -> Result<(), Fail> {
+fn hash_raw_by_two_workers_argon2i_denied_in_turn(rt: HostRuntime) -> Result<(), Fail> {
     tell(&rt, hash(&rt, rt.alloc(), Argon2i, AtMost(2)))
 }
 
 #[test]
-fn hash_raw_in_one_thread_argon2i_refused_in_turn(rt: HostRuntime) -> Result<(), Fail> {
+fn hash_raw_in_one_thread_argon2i_denied_in_turn(rt: HostRuntime) -> Result<(), Fail> {
     tell(&rt, hash(&rt, rt.alloc(), Argon2i, Sequential))
 }
 
 #[test]
-fn hash_raw_sequential_argon2i_refused_in_turn(rt: HostRuntime) -> Result<(), Fail> {
+fn hash_raw_sequential_argon2i_denied_in_turn(rt: HostRuntime) -> Result<(), Fail> {
     tell(&rt, hash_sequential(rt.alloc(), Argon2i))
 }
 
 #[test]
-fn hash_raw_by_workers_argon2id_refused_in_turn(rt: HostRuntime) -> Result<(), Fail> {
+fn hash_raw_by_workers_argon2id_denied_in_turn(rt: HostRuntime) -> Result<(), Fail> {
     tell(&rt, hash(&rt, rt.alloc(), Argon2id, Parallel))
 }
 
 #[test]
-fn hash_raw_by_two_workers_argon2id_refused_in_turn(rt: HostRuntime) -> Result<(), Fail> {
+fn hash_raw_by_two_workers_argon2id_denied_in_turn(rt: HostRuntime) -> Result<(), Fail> {
     tell(&rt, hash(&rt, rt.alloc(), Argon2id, AtMost(2)))
 }
 
 #[test]
-fn hash_raw_in_one_thread_argon2id_refused_in_turn(rt: HostRuntime) -> Result<(), Fail> {
+fn hash_raw_in_one_thread_argon2id_denied_in_turn(rt: HostRuntime) -> Result<(), Fail> {
     tell(&rt, hash(&rt, rt.alloc(), Argon2id, Sequential))
 }
 
 #[test]
-fn hash_raw_sequential_argon2id_refused_in_turn(rt: HostRuntime) -> Result<(), Fail> {
+fn hash_raw_sequential_argon2id_denied_in_turn(rt: HostRuntime) -> Result<(), Fail> {
     tell(&rt, hash_sequential(rt.alloc(), Argon2id))
 }
 
 #[test]
-fn hash_encoded_by_workers_refused_in_turn(rt: HostRuntime) -> Result<(), Fail> {
+fn hash_encoded_by_workers_denied_in_turn(rt: HostRuntime) -> Result<(), Fail> {
     tell(&rt, encode(&rt, rt.alloc(), Parallel))
 }
 
 #[test]
-fn hash_encoded_by_two_workers_refused_in_turn(rt: HostRuntime) -> Result<(), Fail> {
+fn hash_encoded_by_two_workers_denied_in_turn(rt: HostRuntime) -> Result<(), Fail> {
     tell(&rt, encode(&rt, rt.alloc(), AtMost(2)))
 }
 
 #[test]
-fn hash_encoded_in_one_thread_refused_in_turn(rt: HostRuntime) -> Result<(), Fail> {
+fn hash_encoded_in_one_thread_denied_in_turn(rt: HostRuntime) -> Result<(), Fail> {
     tell(&rt, encode(&rt, rt.alloc(), Sequential))
 }
 
 #[test]
-fn hash_encoded_sequential_refused_in_turn(rt: HostRuntime) -> Result<(), Fail> {
+fn hash_encoded_sequential_denied_in_turn(rt: HostRuntime) -> Result<(), Fail> {
     let config = in_mode(Argon2id, Parallel);
     let answer = hash_encoded_sequential(rt.alloc(), &PASSWORD, &SALT, &config);
     tell(&rt, answer.map(|text| text.as_str() == TEXT))
@@ -133,7 +133,7 @@ fn hash_encoded_sequential_refused_in_turn(rt: HostRuntime) -> Result<(), Fail> 
 
 // More workers than a batch of handles holds, and a single pass.
 #[test]
-fn hash_raw_by_forty_workers_refused_in_turn(rt: HostRuntime) -> Result<(), Fail> {
+fn hash_raw_by_forty_workers_denied_in_turn(rt: HostRuntime) -> Result<(), Fail> {
     let config = Config {
         mem_cost: 320,
         thread_mode: Parallel,

@@ -52,7 +52,8 @@ const WITHIN: [&str; 12] = [
     "$argon2id$v=19$m=102400,t=2,p=8$AAAAAAA$AAAAAAA",
 ];
 
-// Encoded hashes at all default limits but that of the passes or of the memory, and above one.
+// Encoded hashes at all default limits except that of passes or that of memory; then hashes above a
+// limit.
 // limits, by .ci/pages/presets
 const AT_LIMITS: [&str; 2] = [
     "$argon2id$v=19$m=2097152,t=2,p=16$AAAAAAA$AAAAAAA",
@@ -69,7 +70,7 @@ const ABOVE_A_LIMIT: [&str; 6] = [
 ];
 // end
 
-// Encoded hashes above all default limits, and above that of the memory without passes.
+// An encoded hash above all default limits, and one without passes that is above the memory limit.
 const ABOVE: [&str; 2] = [
     "$argon2id$v=19$m=4294967295,t=4294967295,p=16777215$c29tZXNhbHQ$iekCn0Y3spW+sCcFanM2xBT63UP2sghkUoHLIUpWRS8",
     "$argon2d$m=4294967295,t=0,p=0$$",
@@ -108,7 +109,7 @@ fn is(unverified: &Unverified, answer: Result<bool, Unverified>) -> bool {
     answer.err().is_some_and(|other| other == *unverified)
 }
 
-/// What came, as without limits.
+/// The answer as without limits. TooCostly becomes `false`.
 fn without_limits(answer: Result<bool, Unverified>) -> argon2::Result<bool> {
     match answer {
         Ok(same) => Ok(same),
@@ -118,21 +119,21 @@ fn without_limits(answer: Result<bool, Unverified>) -> argon2::Result<bool> {
 }
 
 #[test]
-fn verify_encoded_within_refused_in_turn(rt: HostRuntime) -> Result<(), Fail> {
+fn verify_encoded_within_denied_in_turn(rt: HostRuntime) -> Result<(), Fail> {
     let (alloc, limits) = (rt.alloc(), limits_of(OF_TEXT));
     let answer = verify_encoded_within(&rt, alloc, TEXT, &PASSWORD, &SECRET, &AD, &limits);
     tell(&rt, without_limits(answer))
 }
 
 #[test]
-fn verify_encoded_within_sequential_refused_in_turn(rt: HostRuntime) -> Result<(), Fail> {
+fn verify_encoded_within_sequential_denied_in_turn(rt: HostRuntime) -> Result<(), Fail> {
     let (alloc, limits) = (rt.alloc(), Limits::default());
     let answer = verify_encoded_within_sequential(alloc, TEXT, &PASSWORD, &SECRET, &AD, &limits);
     tell(&rt, without_limits(answer))
 }
 
 #[test]
-fn a_costly_text_allocates_nothing_refused_in_turn(rt: HostRuntime) -> Result<(), Fail> {
+fn a_costly_text_allocates_nothing_denied_in_turn(rt: HostRuntime) -> Result<(), Fail> {
     let alloc = rt.alloc();
     for costs in BELOW {
         let is_costly = both_answer(&rt, alloc, TEXT, &limits_of(costs), &Unverified::TooCostly);
@@ -147,7 +148,7 @@ fn a_costly_text_allocates_nothing_refused_in_turn(rt: HostRuntime) -> Result<()
 
 // Strings of four more characters each, whose hashes are whole groups of base64.
 #[test]
-fn a_costly_text_of_any_length_allocates_nothing_refused_in_turn(
+fn a_costly_text_of_any_length_allocates_nothing_denied_in_turn(
     rt: HostRuntime,
 ) -> Result<(), Fail> {
     let (alloc, limits) = (rt.alloc(), Limits::default());
@@ -161,7 +162,7 @@ fn a_costly_text_of_any_length_allocates_nothing_refused_in_turn(
 
 // A salt of five bytes: no tag is computed.
 #[test]
-fn a_text_within_limits_is_judged_refused_in_turn(rt: HostRuntime) -> Result<(), Fail> {
+fn a_text_within_limits_is_judged_denied_in_turn(rt: HostRuntime) -> Result<(), Fail> {
     let (alloc, limits) = (rt.alloc(), Limits::default());
     let short = Unverified::Refused(Error::SaltTooShort);
     for text in AT_LIMITS.into_iter().chain(WITHIN) {

@@ -26,13 +26,13 @@ fn context(variant: Variant, mode: ThreadMode) -> argon2::Result<Context<'static
 }
 
 #[test]
-fn memory_new_refused_in_turn(rt: HostRuntime) -> Result<(), Fail> {
+fn memory_new_denied_in_turn(rt: HostRuntime) -> Result<(), Fail> {
     let memory = Memory::new(rt.alloc(), 4, 8);
     let answer = memory.map(|memory| memory.lanes() == 4 && memory.writes() == 0);
     tell(&rt, answer)
 }
 
-/// Whether a memory as large is filled, and a stretched hash is written beside it.
+/// Whether a memory of 4 lanes of 8 blocks is filled, and H' writes 100 bytes.
 fn filled(alloc: Global, variant: Variant) -> argon2::Result<bool> {
     let context = context(variant, ThreadMode::Parallel)?;
     let mut memory = Memory::empty(alloc);
@@ -47,17 +47,17 @@ fn filled(alloc: Global, variant: Variant) -> argon2::Result<bool> {
 // Each has to allocate what `memory_new` does, and nothing else. Argon2i's references depend on no
 // block, Argon2d's on blocks, Argon2id's first on none and then on blocks.
 #[test]
-fn memory_new_and_filled_argon2d_refused_in_turn(rt: HostRuntime) -> Result<(), Fail> {
+fn memory_new_and_filled_argon2d_denied_in_turn(rt: HostRuntime) -> Result<(), Fail> {
     tell(&rt, filled(rt.alloc(), Variant::Argon2d))
 }
 
 #[test]
-fn memory_new_and_filled_argon2i_refused_in_turn(rt: HostRuntime) -> Result<(), Fail> {
+fn memory_new_and_filled_argon2i_denied_in_turn(rt: HostRuntime) -> Result<(), Fail> {
     tell(&rt, filled(rt.alloc(), Variant::Argon2i))
 }
 
 #[test]
-fn memory_new_and_filled_argon2id_refused_in_turn(rt: HostRuntime) -> Result<(), Fail> {
+fn memory_new_and_filled_argon2id_denied_in_turn(rt: HostRuntime) -> Result<(), Fail> {
     tell(&rt, filled(rt.alloc(), Variant::Argon2id))
 }
 
@@ -76,17 +76,17 @@ fn filled_in_mode<R: Threads + Wait + Sync>(
 }
 
 #[test]
-fn fill_memory_blocks_by_workers_refused_in_turn(rt: HostRuntime) -> Result<(), Fail> {
+fn fill_memory_blocks_by_workers_denied_in_turn(rt: HostRuntime) -> Result<(), Fail> {
     tell(&rt, filled_in_mode(&rt, rt.alloc(), ThreadMode::Parallel))
 }
 
 #[test]
-fn fill_memory_blocks_by_two_workers_refused_in_turn(rt: HostRuntime) -> Result<(), Fail> {
+fn fill_memory_blocks_by_two_workers_denied_in_turn(rt: HostRuntime) -> Result<(), Fail> {
     tell(&rt, filled_in_mode(&rt, rt.alloc(), ThreadMode::AtMost(2)))
 }
 
 #[test]
-fn fill_memory_blocks_in_one_thread_refused_in_turn(rt: HostRuntime) -> Result<(), Fail> {
+fn fill_memory_blocks_in_one_thread_denied_in_turn(rt: HostRuntime) -> Result<(), Fail> {
     tell(&rt, filled_in_mode(&rt, rt.alloc(), ThreadMode::Sequential))
 }
 
@@ -102,12 +102,12 @@ fn hashed(alloc: Global) -> argon2::Result<bool> {
 }
 
 #[test]
-fn finalize_refused_in_turn(rt: HostRuntime) -> Result<(), Fail> {
+fn finalize_denied_in_turn(rt: HostRuntime) -> Result<(), Fail> {
     tell(&rt, hashed(rt.alloc()))
 }
 
-// ---- each call twice in a reusable buffer of the caller: the second allocates no blocks, and each
-// writes each block once a pass. And one in a buffer of another shape.
+// ---- each call twice in a reusable buffer of the caller. The second call allocates no blocks, and
+// each call writes each block once a pass. Then one call in a buffer of another shape
 
 // The writes of two calls: 3 passes over 32 blocks.
 const WRITES: u64 = 2 * 3 * 32;
@@ -127,7 +127,7 @@ fn twice<F: Fn(&mut Memory) -> argon2::Result<bool>>(alloc: Global, call: F) -> 
 }
 
 #[test]
-fn hash_raw_in_twice_refused_in_turn(rt: HostRuntime) -> Result<(), Fail> {
+fn hash_raw_in_twice_denied_in_turn(rt: HostRuntime) -> Result<(), Fail> {
     let (alloc, config) = (rt.alloc(), by_workers());
     let answer = twice(alloc, |memory| {
         let tag = hash_raw_in(&rt, alloc, memory, &PASSWORD, &SALT, &config)?;
@@ -137,7 +137,7 @@ fn hash_raw_in_twice_refused_in_turn(rt: HostRuntime) -> Result<(), Fail> {
 }
 
 #[test]
-fn hash_raw_in_sequential_twice_refused_in_turn(rt: HostRuntime) -> Result<(), Fail> {
+fn hash_raw_in_sequential_twice_denied_in_turn(rt: HostRuntime) -> Result<(), Fail> {
     let (alloc, config) = (rt.alloc(), by_workers());
     let answer = twice(alloc, |memory| {
         let tag = hash_raw_in_sequential(alloc, memory, &PASSWORD, &SALT, &config)?;
@@ -154,12 +154,12 @@ fn hash_in_another_shape(alloc: Global) -> argon2::Result<bool> {
 }
 
 #[test]
-fn hash_raw_in_another_shape_refused_in_turn(rt: HostRuntime) -> Result<(), Fail> {
+fn hash_raw_in_another_shape_denied_in_turn(rt: HostRuntime) -> Result<(), Fail> {
     tell(&rt, hash_in_another_shape(rt.alloc()))
 }
 
 #[test]
-fn hash_encoded_in_twice_refused_in_turn(rt: HostRuntime) -> Result<(), Fail> {
+fn hash_encoded_in_twice_denied_in_turn(rt: HostRuntime) -> Result<(), Fail> {
     let (alloc, config) = (rt.alloc(), by_workers());
     let answer = twice(alloc, |memory| {
         let text = hash_encoded_in(&rt, alloc, memory, &PASSWORD, &SALT, &config)?;
@@ -169,7 +169,7 @@ fn hash_encoded_in_twice_refused_in_turn(rt: HostRuntime) -> Result<(), Fail> {
 }
 
 #[test]
-fn hash_encoded_in_sequential_twice_refused_in_turn(rt: HostRuntime) -> Result<(), Fail> {
+fn hash_encoded_in_sequential_twice_denied_in_turn(rt: HostRuntime) -> Result<(), Fail> {
     let (alloc, config) = (rt.alloc(), by_workers());
     let answer = twice(alloc, |memory| {
         let text = hash_encoded_in_sequential(alloc, memory, &PASSWORD, &SALT, &config)?;
@@ -179,7 +179,7 @@ fn hash_encoded_in_sequential_twice_refused_in_turn(rt: HostRuntime) -> Result<(
 }
 
 #[test]
-fn verify_raw_in_twice_refused_in_turn(rt: HostRuntime) -> Result<(), Fail> {
+fn verify_raw_in_twice_denied_in_turn(rt: HostRuntime) -> Result<(), Fail> {
     let (alloc, config) = (rt.alloc(), by_workers());
     let answer = twice(alloc, |memory| {
         verify_raw_in(&rt, alloc, memory, &PASSWORD, &SALT, &ARGON2ID, &config)
@@ -188,7 +188,7 @@ fn verify_raw_in_twice_refused_in_turn(rt: HostRuntime) -> Result<(), Fail> {
 }
 
 #[test]
-fn verify_raw_in_sequential_twice_refused_in_turn(rt: HostRuntime) -> Result<(), Fail> {
+fn verify_raw_in_sequential_twice_denied_in_turn(rt: HostRuntime) -> Result<(), Fail> {
     let (alloc, config) = (rt.alloc(), by_workers());
     let answer = twice(alloc, |memory| {
         verify_raw_in_sequential(alloc, memory, &PASSWORD, &SALT, &ARGON2ID, &config)
@@ -197,7 +197,7 @@ fn verify_raw_in_sequential_twice_refused_in_turn(rt: HostRuntime) -> Result<(),
 }
 
 #[test]
-fn verify_encoded_in_twice_refused_in_turn(rt: HostRuntime) -> Result<(), Fail> {
+fn verify_encoded_in_twice_denied_in_turn(rt: HostRuntime) -> Result<(), Fail> {
     let alloc = rt.alloc();
     let answer = twice(alloc, |memory| {
         verify_encoded_in(&rt, alloc, memory, TEXT, &PASSWORD, &SECRET, &AD)
@@ -206,7 +206,7 @@ fn verify_encoded_in_twice_refused_in_turn(rt: HostRuntime) -> Result<(), Fail> 
 }
 
 #[test]
-fn verify_encoded_in_sequential_twice_refused_in_turn(rt: HostRuntime) -> Result<(), Fail> {
+fn verify_encoded_in_sequential_twice_denied_in_turn(rt: HostRuntime) -> Result<(), Fail> {
     let alloc = rt.alloc();
     let answer = twice(alloc, |memory| {
         verify_encoded_in_sequential(alloc, memory, TEXT, &PASSWORD, &SECRET, &AD)

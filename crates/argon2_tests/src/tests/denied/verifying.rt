@@ -47,62 +47,62 @@ fn verify<R: Threads + Wait + Sync>(
 }
 
 #[test]
-fn verify_raw_by_workers_refused_in_turn(rt: HostRuntime) -> Result<(), Fail> {
+fn verify_raw_by_workers_denied_in_turn(rt: HostRuntime) -> Result<(), Fail> {
     tell(&rt, verify(&rt, rt.alloc(), ThreadMode::Parallel))
 }
 
 #[test]
-fn verify_raw_by_two_workers_refused_in_turn(rt: HostRuntime) -> Result<(), Fail> {
+fn verify_raw_by_two_workers_denied_in_turn(rt: HostRuntime) -> Result<(), Fail> {
     tell(&rt, verify(&rt, rt.alloc(), ThreadMode::AtMost(2)))
 }
 
 #[test]
-fn verify_raw_in_one_thread_refused_in_turn(rt: HostRuntime) -> Result<(), Fail> {
+fn verify_raw_in_one_thread_denied_in_turn(rt: HostRuntime) -> Result<(), Fail> {
     tell(&rt, verify(&rt, rt.alloc(), ThreadMode::Sequential))
 }
 
 #[test]
-fn verify_raw_sequential_refused_in_turn(rt: HostRuntime) -> Result<(), Fail> {
+fn verify_raw_sequential_denied_in_turn(rt: HostRuntime) -> Result<(), Fail> {
     let config = in_mode(Variant::Argon2id, ThreadMode::Parallel);
     let answer = verify_raw_sequential(rt.alloc(), &PASSWORD, &SALT, &ARGON2ID, &config);
     tell(&rt, answer)
 }
 
 #[test]
-fn verify_encoded_refused_in_turn(rt: HostRuntime) -> Result<(), Fail> {
+fn verify_encoded_denied_in_turn(rt: HostRuntime) -> Result<(), Fail> {
     let answer = verify_encoded(&rt, rt.alloc(), OF_16_LANES, b"password");
     tell(&rt, answer)
 }
 
 #[test]
-fn verify_encoded_ext_refused_in_turn(rt: HostRuntime) -> Result<(), Fail> {
+fn verify_encoded_ext_denied_in_turn(rt: HostRuntime) -> Result<(), Fail> {
     let answer = verify_encoded_ext(&rt, rt.alloc(), TEXT, &PASSWORD, &SECRET, &AD);
     tell(&rt, answer)
 }
 
 // 16 workers at most.
 #[test]
-fn verify_encoded_ext_of_20_lanes_refused_in_turn(rt: HostRuntime) -> Result<(), Fail> {
+fn verify_encoded_ext_of_20_lanes_denied_in_turn(rt: HostRuntime) -> Result<(), Fail> {
     let (password, secret) = (&PASSWORD_OF_20_LANES, &SECRET_OF_20_LANES);
     let answer = verify_encoded_ext(&rt, rt.alloc(), OF_20_LANES, password, secret, b"");
     tell(&rt, answer)
 }
 
 #[test]
-fn verify_encoded_sequential_refused_in_turn(rt: HostRuntime) -> Result<(), Fail> {
+fn verify_encoded_sequential_denied_in_turn(rt: HostRuntime) -> Result<(), Fail> {
     let answer = verify_encoded_sequential(rt.alloc(), TEXT, &PASSWORD, &SECRET, &AD);
     tell(&rt, answer)
 }
 
 // Another password than the encoded hash's: no denied request turns the result into `true`.
 #[test]
-fn verify_encoded_of_another_password_refused_in_turn(rt: HostRuntime) -> Result<(), Fail> {
+fn verify_encoded_of_another_password_denied_in_turn(rt: HostRuntime) -> Result<(), Fail> {
     let answer = verify_encoded(&rt, rt.alloc(), OF_16_LANES, b"passwore");
     tell(&rt, answer.map(|is_password| !is_password))
 }
 
 #[test]
-fn needs_rehash_refused_in_turn(rt: HostRuntime) -> Result<(), Fail> {
+fn needs_rehash_denied_in_turn(rt: HostRuntime) -> Result<(), Fail> {
     let more = Config {
         time_cost: 3,
         ..small(Variant::Argon2id, Version::Version13, 16)
@@ -111,7 +111,7 @@ fn needs_rehash_refused_in_turn(rt: HostRuntime) -> Result<(), Fail> {
 }
 
 #[test]
-fn needs_no_rehash_refused_in_turn(rt: HostRuntime) -> Result<(), Fail> {
+fn needs_no_rehash_denied_in_turn(rt: HostRuntime) -> Result<(), Fail> {
     let same = small(Variant::Argon2id, Version::Version13, 16);
     let answer = needs_rehash(rt.alloc(), OF_16_LANES, &same);
     tell(&rt, answer.map(|differs| !differs))
