@@ -16,7 +16,7 @@ import org.bouncycastle.crypto.params.Argon2Parameters;
 final class Hashes {
     private static final byte[] PASSWORD = "password".getBytes(StandardCharsets.US_ASCII);
     private static final byte[] SALT = "somesaltsomesalt".getBytes(StandardCharsets.US_ASCII);
-    /** So that what is timed is compiled. */
+    /** Untimed hashes, after which the code is compiled. */
     private static final int WARM = 20;
 
     private static byte[] ours(int memory, int passes, int lanes) {

@@ -3,7 +3,7 @@
 const PASSWORD: &[u8] = b"password";
 const SALT: &[u8] = b"somesaltsomesalt";
 
-/// Returns 1 for more threads: this crate fills in one alone.
+/// Returns 1 for several threads: this crate uses only one.
 #[no_mangle]
 pub extern "C" fn rustcrypto(memory: u32, passes: u32, lanes: u32, threads: u32, tag: &mut [u8; 32]) -> i32 {
     use rustcrypto::{Algorithm, Argon2, Params, Version};

@@ -1,9 +1,9 @@
 #!/usr/bin/env python3
-"""Measures how many hashes per second callers get that hash at the same time, and how long each of them waits, for our
-library and its peers: bench/throughput.py FOLDER SECONDS
+"""Measures how many hashes per second concurrent callers get, and how long each of them waits, for our library and its
+peers: bench/throughput.py FOLDER SECONDS
 
 Each caller is a thread; ctypes lets threads hash at the same time. FOLDER is what bench/run builds. Each implementation
-runs for SECONDS in each of ROUNDS, which have a new random order. For each case and implementation this prints a line:
+runs for SECONDS in each of ROUNDS, each with a new random order. For each case and implementation this prints a line:
 the case, the name, hashes per second, and the median and the 99th percentile of milliseconds.
 """
 import os

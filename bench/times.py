@@ -25,7 +25,7 @@ from pathlib import Path
 
 PASSWORD, SALT = create_string_buffer(b'password', 8), create_string_buffer(b'somesaltsomesalt', 16)
 HUGE_PAGE, ARGON2ID, VERSION = 2 << 20, 2, 0x13
-# What each implementation writes, and what it has other addresses of, in a case.
+# The tag that each implementation writes, and objects of a case that C code has the addresses of.
 TAG, kept = create_string_buffer(32), []
 # The kinds of kernel, in the pages' words, and how to set each.
 KINDS = {'madvise': 'huge pages on request', 'always': 'huge pages for all'}
@@ -128,7 +128,7 @@ def openssl(library, cost):
 
 
 # An implementation: its names in figures.txt and on pages; a library of the machine or of bench/run; and what makes the
-# timed call, which returns milliseconds, or None without such a case.
+# timed call, which returns milliseconds. Without such a case it makes no call.
 Peer = namedtuple('Peer', 'name label library call')
 PEERS = (
     Peer('v4', 'this library, AVX-512', 'v4.so', ours),
@@ -151,8 +151,8 @@ PEERS = (
 
 
 def load(folder, name):
-    """A library, a module for Node, a program of Go, or a jar; None, where it is not there. Ours chooses its build at
-    its first call, here that which its file is named by."""
+    """A library, a module for Node, a program of Go, or a jar; None if it is not there. Our library chooses its build
+    at its first call, here the one in its file's name."""
     path = Path(folder, name).absolute()
     if path.suffix in ('.js', '.jar', ''):
         return path if path.exists() else None

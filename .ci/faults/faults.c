@@ -1,7 +1,7 @@
 /* Makes things go wrong in a program that preloads this. It reports each event in a line on standard error, so that a
-   run without events is seen to have tested nothing: each request for memory says `request` or `refused`, each block
-   that is freed `freed`, each start of a thread `start`, `refused` or, by the system, `denied`; and the end how much
-   memory was resident at most: the line `VmHWM` of /proc/self/status.
+   run without events is seen to have tested nothing. A request for memory says `request` or `refused`, a freed block
+   `freed`, and a thread start `start`, `refused` or, if the system refuses it, `denied`. The program's exit says how
+   much memory was resident at most: the line `VmHWM` of /proc/self/status.
 
    REFUSE_REQUEST N  refuses the N-th request for memory
    REFUSE_START N    refuses the N-th thread start
@@ -36,7 +36,7 @@ static unsigned long number_in(const char *name, unsigned long other)
     return number ? strtoul(number, NULL, 10) : other;
 }
 
-/* Whether to refuse this one: the first that is refused, or one of its next tries. */
+/* Whether to refuse this event: the N-th, or one of the tries that follow it. */
 static int is_refused(const char *name, unsigned long *count)
 {
     const unsigned long first = number_in(name, 0), number = __atomic_add_fetch(count, 1, __ATOMIC_SEQ_CST);

@@ -21,7 +21,7 @@ from toolchain import is_current
 
 PASSWORD = b'password'
 PROCESSORS = sorted(os.sched_getaffinity(0))
-SECONDS = 600  # after which a run hangs
+SECONDS = 600  # after which a run counts as hanging
 TRIES = 100  # of a start, before it counts as refused (`TRIES` of argon2_fill/src/workers/crew.rt)
 SLICES = 4  # of a pass
 NOTE = re.compile(r'^(request|freed|start|refused|denied|late|VmHWM:.*)\n', re.M)
@@ -36,10 +36,10 @@ FAULTS = str(build_preloaded(TOP / '.ci/faults/faults.c', FOLDER.name))
 
 @functools.cache
 def copy_of(name, suffix=''):
-    """A copy of the binary of a crate that the proofs left, of these sources."""
+    """A copy of a crate's binary that the proofs left. It has to be built from these sources."""
     crate = name.removesuffix('_tests')
     binary = TOP / f'crates/{crate}/out/{name}{suffix}'
-    assert is_current(crate, binary, says_why=True), f'{binary.name} is of other sources'
+    assert is_current(crate, binary, says_why=True), f'{binary.name} was built from other sources'
     return Path(shutil.copy(binary, FOLDER.name))
 
 
@@ -54,7 +54,7 @@ class Came:
         self.met = Counter(self.notes)
 
     def end(self, status, output, errors=''):
-        """`VALUE` if it ended so, the refusal, or how else it ended."""
+        """`VALUE` if it ended as these say; otherwise the resource error, or how else it ended."""
         if (self.status, self.output, self.errors) == (status, output, errors):
             return VALUE
         is_refused = (self.status, self.output) == (2, '') and self.errors in (NO_MEMORY, NO_WORKER)
@@ -77,7 +77,7 @@ def run(words, is_over_faults=True, meanwhile=lambda process: None, input_bytes=
 
 
 class Hash(NamedTuple):
-    """A hash by the program, with a worker for each lane, or `most`, or none."""
+    """A hash by the program, with a worker for each lane (None), at most `most`, or none (0)."""
     variant: str
     version: int
     passes: int

@@ -1,5 +1,6 @@
 """Runs the program under limits of the system: just as many threads as it needs, no thread at all, little address
-space, and a matrix that no system has. Only root can: it runs a separate user, whose threads count."""
+space, and a matrix that no system has. Only root can: the program runs as a separate user, whose threads
+Linux counts."""
 
 import os
 import resource
@@ -9,7 +10,7 @@ from itertools import groupby
 import pytest
 from runs import NO_MEMORY, NO_WORKER, SLICES, TRIES, VALUE, Hash, copy_of, run
 
-HASHES, FEW, LEAST = 200, 20, 198  # hashes; those with one thread fewer; how many former ones must succeed
+HASHES, FEW, LEAST = 200, 20, 198  # hashes; hashes with one thread fewer; how many of the 200 must succeed
 PASSES, LATE = 3, 1000  # microseconds
 MATRIX, BESIDE_THE_MATRIX, BESIDE_A_SLICE = 65536, 16384, 4096  # KiB
 MOST_RESIDENT, MANY = 2048, 16  # KiB, of which the program itself has most; workers

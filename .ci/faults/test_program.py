@@ -1,8 +1,8 @@
 """Runs the program and the shell's tool over real pipes: each exit status, what is written for it, words that no shell
 would pass, words of many lengths, and inputs that are longer than any password. The proofs do not cover the bytes of
 standard streams or the arguments of processes; rows of argon2_vectors say which words a command takes. Rattle's calls
-return libargon2's hashes of all lengths, drawn from SEED of the environment or from a printed seed, and no resource
-error without a denial.
+return libargon2's hashes of all lengths, and no resource error, since nothing is denied. Hashes are drawn from SEED of
+the environment or from a printed seed.
 
 If the environment has OVER, the path of another tool with the same words, only that is tested.
 """
@@ -30,14 +30,14 @@ NO_TEXT, SHORT_SALT = (2, '', 'Decoding failed\n'), (2, '', 'Salt is too short\n
 ADDED = re.compile(
     rf'(?<=^{USAGE[2]})(.*see --help|.*an argument is not UTF-8)\n$|(?<=^{NO_TEXT[2]}).*quotes\n$'
     rf'|(?<=^{ABOVE[2]}).* 2 GiB, 10 passes, 16 lanes and the work of 4 GiB in one pass\n$')
-# Of two lanes; of one, whose text is stored; and of a salt that is no text.
+# Hashes of two lanes, of one lane (its encoded hash is stored), and with a salt that is no text.
 TWO, ONE = Hash('argon2d', 19, 2, 256, 2, 32, salt=b'somesalt'), Hash('argon2i', 19, 2, 256, 1, 32)
 NO_WORD = Hash('argon2id', 19, 1, 8, 1, 16, 0, bytes(range(240, 256)))
 HASH, STORED, NEW = TWO.words(), ONE.text(), ['new', *TWO.settings(), '736f6D6573616c74']
 VERIFY, CHECK, REHASH = ['verify', STORED], ['check', STORED], ['rehash', *ONE.settings()[:-1], STORED]
 LEAST = Hash('argon2id', 19, 1, 8, 1, 32)
-# Thread modes and hashes: each number of passes with each of lanes, more lanes than other tests have, with few workers,
-# each length of a tag behind those that other tests have, and salts of each byte alone.
+# Thread modes and hashes: each number of passes with each number of lanes; more lanes than other tests have, with few
+# workers; each tag length above those of other tests; and salts that repeat one byte, for each byte.
 SIZES = {
     'passes and lanes': [('all', LEAST._replace(variant=DRAW.choice(VARIANTS), passes=passes, memory=8 * lanes,
                                                 lanes=lanes))
@@ -51,9 +51,9 @@ COSTLY = [['check', '$argon2id$v=19$m=8,t=1000,p=1$$c29tZWhhc2g'], ['new', *'arg
 
 
 def ends():
-    """The result of each run of some words, and how it is run. Statuses 0 and 1: only the answer is written. Status 2:
-    only the refusal. Status 5: above the tool's limits, whatever else is wrong. Status 3: words of no command, to the
-    last of 20,000."""
+    """Each result, the arguments of the runs that come to it, and how they are run. Statuses 0 and 1: only the answer
+    is written. Status 2: only the refusal. Status 5: above the tool's limits, whatever else is wrong. Status 3:
+    arguments of no command, as many as 20,000."""
     yield (0, TWO.output(), ''), [HASH, NEW]
     yield (0, NO_WORD.output(), ''), [['new', *NO_WORD.settings(), NO_WORD.salt.hex()]]
     yield TRUE, [VERIFY, CHECK, [*REHASH[:3], '3', *REHASH[4:]]]
@@ -66,12 +66,12 @@ def ends():
     yield USAGE, [[], ['verify'], [' '], [*HASH, 'more'], [*VERIFY, ''], ['word'] * 20000, [*VERIFY, *['word'] * 20000],
                   [b'verify', b'\xff'], [*HASH, b'\xc3('], ['check'], NEW[:-1], [b'check', b'\xff']]
     # An input longer than any password is not read completely: the address space leaves little room beside the longest
-    # password, so such a program would lack memory.
+    # password, so a program that read on would lack memory.
     for space, every in ((LONGEST + BESIDE, [HASH, VERIFY]), (BESIDE, [NEW, CHECK])):
         yield TOO_LONG, every, {'by': f'exec prlimit --as={space} "$0" "$@" </dev/zero'}
     yield FALSE, [CHECK], {'input_bytes': b'x' * LONGEST_OF_TOOL}
     yield TOO_LONG, [CHECK, ['check', 'x']], {'input_bytes': b'x' * (LONGEST_OF_TOOL + 1)}
-    # Status 4: the input cannot be read, or the output cannot be written. Errors may be read by nobody.
+    # Status 4: the input cannot be read, or the output cannot be written. A failure to write errors changes no status.
     for expected, every in (INPUT, [VERIFY, *COSTLY]), (USAGE, [['verify'], [*NEW[:-1], '0']]), (FALSE, [REHASH]):
         yield expected, every, {'by': 'exec "$0" "$@" <.'}
     yield (4, '', ''), [VERIFY, HASH], {'by': 'exec "$0" "$@" >/dev/full'}

@@ -49,15 +49,15 @@ def stop(process):
                 time.sleep(random.random() * MOST_MOMENT)
                 process.send_signal(signal.SIGSTOP)
                 os.waitid(os.P_PID, process.pid, os.WSTOPPED | os.WEXITED | os.WNOWAIT)
-                threads.append(len(os.listdir(tasks)))  # of one that has ended one is left
+                threads.append(len(os.listdir(tasks)))  # (one, if the process has ended)
                 process.send_signal(signal.SIGCONT)
             time.sleep(0.0001)
     return max(threads, default=0)
 
 
-# Each kind: what goes wrong; the notes, or what else is seen, of a run that met it; and how many percent of the runs
-# have to meet it. A start or request is drawn among more than there may be, and a stop may find that the workers have
-# just ended.
+# Each kind: what goes wrong; whether a run met it, by its notes or what else is seen; and how many percent of the runs
+# have to meet it. That is 50 if a start or request is drawn among more than there may be, or the workers may have ended
+# before a stop.
 KINDS = {
     'plain': (lambda *_: {}, lambda came, starts: came.met['start'] == starts, 100),
     'memory': (lambda draw, _: {'REFUSE_REQUEST': draw.randint(1, 120)}, lambda came, _: came.met['refused'], 50),

@@ -2,8 +2,8 @@
 to 512 MiB, or a quarter of what the system has left, 300 lanes and workers and a tag of 90,000 bytes. Each run has
 libargon2's tag and encoded hash, which verifies; starts as many workers as its settings say; and allocates as often as
 with the least memory, except for the two printed lines: their string grows with their length, and contains no secret.
-With less memory, valgrind also counts the compressed blocks, and by argon2_vectors those of calls that use one thread
-in any mode, which the program does not make. So at no size is anything refused, left to one thread, or done twice.
+With less memory, valgrind also counts the blocks that the program compresses, and those of argon2_vectors, which makes
+Rattle's calls in all modes and in one thread. So at no size is anything refused, left to one thread, or done twice.
 """
 
 import random
@@ -22,10 +22,10 @@ ABOUT = Path('/proc/meminfo').read_text(encoding='utf-8')
 MOST_MEMORY = min(512 << 10, int(re.search(r'^MemAvailable: +(\d+) kB$', ABOUT, re.M)[1]) // 4)
 MOST_COUNTED, MOST_OF_MODES = 24 << 10, 6 << 10  # KiB
 MOST_LANES, MOST_PASSES, MOST_TAG, MOST_FOR_A_TEXT = 300, 6, 90_000, 16
-# Segments of more than 2^16 blocks, whose addresses are made anew for each 128 blocks as in smaller ones.
-# And several lanes of more memory than is counted of those that are drawn.
+# A hash with segments of more than 2^16 blocks, whose addresses are made anew for each 128 blocks as in smaller ones,
+# and one of several lanes with more memory than the drawn ones that are counted.
 LARGE = Hash('argon2i', 19, 1, SLICES * (1 << 16) + 4 * SLICES, 1, 32), Hash('argon2d', 19, 1, 96 << 10, 3, 32)
-# What compresses a block, and how many blocks are drawn from one.
+# The function that compresses a block, and how many references an address block contains.
 COMPRESSION, DRAWN_AT_ONCE = 'argon2_blocks::block::kernel::fill_words', 128
 DRAW = random.Random(SEED)
 
@@ -56,7 +56,7 @@ def each(hashes):
 
 def blocks(settings):
     """How many blocks are compressed: those of the matrix, in each pass, except for the first two of each lane; and two
-    for each 128 references that depend on no block, in each segment longer than those two."""
+    for each 128 references that depend on no block, in each segment with blocks other than those two."""
     length = settings.memory // (SLICES * settings.lanes)
     slices = {'argon2d': 0, 'argon2id': 2, 'argon2i': SLICES * settings.passes}[settings.variant]
     slices -= slices > 0 and length == 2
@@ -75,7 +75,7 @@ def compressed_by(name, *words, input_bytes=PASSWORD):
 
 
 def growths(settings):
-    """How often the string of the lines that a hash prints grows, to which `format!` adds piece by piece."""
+    """How often the string with a hash's printed lines grows while `format!` adds piece by piece."""
     capacity = count = 0
     for end in accumulate(map(len, re.findall(r'.+|\n', settings.output()))):
         if end > capacity:

@@ -78,8 +78,8 @@ def inserted(words, shifted, count):
                  for kept, word in zip(words, shifted))
 
 
-# What instructions make of their operands; those of ONTO also read the register that they write. Behind the names of
-# those for vectors stands how each operand is divided.
+# What instructions make of their operands; those of ONTO also read the register that they write. For vectors, how each
+# operand is divided follows the name.
 VECTOR = {
     'add 2d 2d 2d': each(add), 'eor 16b 16b 16b': each(lambda x, y: x ^ y), 'shl 2d 2d': each(left),
     'mov 16b 16b': tuple,
@@ -110,7 +110,7 @@ def loaded(registers, is_vector, size):
 
 
 def moved(mnemonic, words):
-    """Loads and stores of one register or two. The address may be left in its base, or the base be moved afterwards."""
+    """Loads and stores of one register or two. The base may keep the address, or be moved afterwards."""
     index = next((index for index, word in enumerate(words) if word.startswith('[')), len(words) - 1)
     found, behind, kind = PLACE.fullmatch(words[index]), words[index + 1:], words[0][0]
     if not found or len(behind) > (not found[2]) or kind not in 'xdq':
@@ -154,7 +154,7 @@ def inverted_if(condition, source, target):
 
 
 def control(mnemonic, words):
-    """What has operands of its own kind, or none."""
+    """Instructions with operands of their own kinds, or none."""
     name, _, condition = mnemonic.partition('.')
     sources = [operand(word)[0] for word in words if not word.startswith('lsl #') and word not in CONDITIONS]
     match name, len(words):

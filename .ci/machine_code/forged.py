@@ -10,7 +10,7 @@ from linked import require, run
 from mapped import WRITABLE, OUTSIDE, RELOCATIONS, Dll
 from validated import FUNCTIONS, code_of
 
-WORD, HEADER = struct.Struct('<Q'), 60  # (the size of a member's header, which has that of the member)
+WORD, HEADER = struct.Struct('<Q'), 60  # (the size of an archive member's header, which contains the member's size)
 # Where a header of a segment has its flags, its place in the file and its address; and what returns 0 in x86-64.
 FLAGS, PLACE, ADDRESS, RETURNS_0 = 4, 8, 16, b'\x31\xc0\xc3'
 SYMBOL, ENTRY_OF_FILE, ENTRY_OF_SECTION = 8, 24, 40  # (where a symbol has its address; of ELF, and of a DLL's headers)
@@ -50,7 +50,7 @@ def redirect_a_call(file, forged):
 
 
 def add_a_decoy(file, forged):
-    """Nothing that is called calls the function with this name."""
+    """The function with this name is a decoy: nothing that runs calls it."""
     objects = [forged.with_name(name) for name in ('argon2_c.o', 'decoy.o')]
     run(require('ar'), 'x', f'--output={forged.parent}', file)
     fill, compress = (name for function in FUNCTIONS for name in code_of(file).names.values()
@@ -76,7 +76,7 @@ def call_a_copy(file, forged):
 # ---- what a loader or a linker makes of a file
 
 def by_changes(function):
-    """A forgery by what gives places in a file, and the bytes that are written there."""
+    """Makes a forgery from a function that yields places in a file and the bytes to write there."""
     @functools.wraps(function)
     def forge(file, forged):
         content = bytearray(file.read_bytes())
@@ -166,7 +166,7 @@ def lead_into_an_instruction(file, content):
 
 @by_changes
 def relocate_by_the_size_of_a_symbol(file, content):
-    """In the place of a distance (an addend of -4), and of a symbol that may be in some programs alone."""
+    """In place of a distance (an addend of -4), and with a symbol that only some programs may have."""
     *_, last = re.finditer(rb'\x02\0\0\0(?=....\xfc\xff{7})', content, re.S)
     yield last.start(), b'\x20'
 
@@ -193,7 +193,7 @@ def refer_to_another_symbol(file, content):
 
 @by_changes
 def relocate_code_of_a_dll(file, content):
-    """Where it is not at the address that it prefers."""
+    """Its loader does this if the DLL is not at its preferred address."""
     dll, code = Dll(bytes(content)), code_of(file)
     yield code.place(dll.base + dll.directories[RELOCATIONS][0]), struct.pack('<I', 0x14000)
 
@@ -225,13 +225,13 @@ def add_code_to_an_import(file, content):
 
 
 def sized(content):
-    """A vector of bytes of a module, of below 2^14."""
+    """A module's vector of fewer than 2^14 bytes."""
     return bytes([len(content) & 127 | 128, len(content) >> 7]) + content
 
 
 @by_changes
 def show_an_instruction_by_a_name(file, content):
-    """A module subtracts, and the name of the next function has the addition that was there."""
+    """A module subtracts, and the next function's name prints the addition that was there."""
     code = code_of(file)
     number, = code.begins(FUNCTIONS[0])
     at = [place for place, (text, _) in code.bodies[number].items() if text == 'i64.add'][9]

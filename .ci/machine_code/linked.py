@@ -22,7 +22,7 @@ X86, ARM64, OBJECT = 62, 183, 1  # (numbers of ELF)
 # For each machine: the prefix of binutils' names, objdump's options, and what runs and reads instructions.
 KINDS = {X86: ('', ('-M', 'intel'), x86.X86, x86.decode), ARM64: ('aarch64-linux-gnu-', (), arm64.Arm64, arm64.decode)}
 WINDOWS = 'x86_64-w64-mingw32-', *KINDS[X86][1:]
-# Where memset is in what is linked here of objects, which have no C library; its names elsewhere (build/link).
+# Where memset is in objects that are linked here without a C library; its names elsewhere (build/link).
 OUTSIDE, CLEARS = 16, ('memset', 'memset@plt', 'proved_driver_memset', 'proved_sysv_memset')
 LINKS = ('ld', '--emit-relocs', '-zseparate-code', '--entry=0', '--unresolved-symbols=ignore-all',
          f'--defsym=memset={OUTSIDE}', '--whole-archive')
@@ -39,7 +39,7 @@ ADDRESSES = {'.rdata': ['IMAGE_REL_AMD64_ADDR64'],
              **dict.fromkeys(('.pdata', '.idata'), ['IMAGE_REL_AMD64_ADDR32NB'])}
 TARGET = re.compile(r'([0-9a-f]+) <.*')  # (of a jump)
 JUMP = re.compile(r'(?:[\w.]+ +)*(?:call|j\w+|loop\w*|xbegin|bl?(?:\.\w+)?|[ct]bn?z)\s(?:.*\s)?(0x[0-9a-f]+)')
-# The instructions that each relocation of ARM64 may change, of which it writes an operand alone.
+# The instruction that each relocation of ARM64 may change; it writes only an operand.
 RELOCATED = {275: 'adrp', 277: 'add', 282: 'b', 283: 'bl', 286: 'ldr', 299: 'ldr'}
 DISTANCE_SIZE = 4  # (in bytes)
 # The instructions that multiply 32-bit numbers in vectors: no others make blocks as fast.
@@ -60,8 +60,8 @@ def run(*command):
 
 
 class Code:
-    """The instructions of a linked file, or of an archive, which is linked here: texts and sizes by their addresses. So
-    for each function by where it begins (`bodies`), with its name (`names`)."""
+    """The instructions of a linked file, or of an archive, which is linked here: texts and sizes by their addresses;
+    the same for each function by where it begins (`bodies`), with its name (`names`)."""
 
     def __init__(self, path):
         content = path.read_bytes()
@@ -132,9 +132,9 @@ class Code:
         return place + DISTANCE_SIZE in {end, end - 1} and any(word in text for word in shown)
 
     def calls(self, begin):
-        """How many instructions call a function. A jump behind the end of another function is no call: ld puts one in
-        front of the code that works around a fault of the Cortex-A53 (843419), and which no other instruction enters
-        at its begin."""
+        """How many instructions call a function. A jump behind the end of another function is no call: ld puts such a
+        jump in front of its workaround for a fault of the Cortex-A53 (843419), and no other instruction enters that
+        code at its begin."""
         call = re.compile(rf'(?:call|jmp|bl?)\s+{begin:#x}')
         texts = [text for text, _ in self.instructions.values()]
         return sum(bool(call.fullmatch(text)) and (before, text[:2]) != ('ret', 'b\t')

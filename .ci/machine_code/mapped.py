@@ -89,7 +89,7 @@ def check_segments(loaded):
 
 
 def check_slack(content, loaded):
-    """A system maps whole pages, so anything beside code in its pages has to be zero. Nothing is known only if another
+    """A system maps whole pages, so anything beside code in its pages has to be zero. This is not checked if another
     segment begins or ends there, as in programs that the toolchain links."""
     for segment in loaded:
         unit, begin, end = max(segment['p_align'], PAGE), segment['p_offset'], segment['p_offset'] + segment['p_filesz']

@@ -1,7 +1,7 @@
 """Attacks test_machine_code.py: in both functions of each build, it changes a bit of each byte of the constants, and
-bits of random instructions until `DRAWN` are others of the same length. Each change has to be found, or to compute the
-same, for random numbers too. Each forgery of forged.py has to be found. SEED of the environment, or a printed one,
-determines what is random.
+bits of random instructions until `DRAWN` have become other instructions of the same length. Each change has to be
+found, or to compute the same, for random numbers too. Each forgery of forged.py has to be found. SEED of the
+environment, or a printed one, determines what is random.
 """
 
 import copy
@@ -25,7 +25,7 @@ from validated import FLAGS, FUNCTIONS, builds_of, code_of, faults_of
 pytestmark = pytest.mark.timeout(3600)
 RELEASE, SEED = TOP / 'release', os.environ.get('SEED') or random.randrange(1 << 32)
 FILES = 'x86_64/libproved_argon2.a', 'aarch64/libproved_argon2.a', 'wasm32/proved_argon2.wasm'
-# This module has the same instructions, but for the numbers of the functions that are called.
+# This module has the same instructions, except for the numbers of the functions that are called.
 SAME = 'wasm32/proved_argon2_shared.wasm'
 DRAWN, UNTIL_FORGOTTEN, SHARED, WINDOWS = 300, 100, 'x86_64/libproved_argon2.so.1.0.0', 'windows-x86_64'
 # The instructions that contain constants of the definitions, and in which bytes.
@@ -62,7 +62,7 @@ FORGERIES = (
 
 
 def read_with(code, bits):
-    """The code with bits that are other ones, of the bytes at places of the file."""
+    """The code with bits flipped, each given as the place of its byte in the file and its number."""
     content = bytearray(code.content)
     for place, bit in bits:
         content[place] ^= 1 << bit
@@ -73,10 +73,10 @@ def read_with(code, bits):
 
 
 def instructions_with(code, bits):
-    """What another bit makes of each instruction alone, by their addresses."""
+    """What each instruction becomes if only its bit is flipped, by its address."""
     try:
         other = read_with(code, bits.values()).instructions
-    except Fault:  # (of a module what is no instruction ends the disassembly)
+    except Fault:  # (in a module, an invalid instruction ends the disassembly)
         if len(bits) == 1:
             return {address: ('(bad)', *code.instructions[address][1:]) for address in bits}
         halves = (dict([*bits.items()][at::2]) for at in (0, 1))
@@ -94,7 +94,7 @@ class Attacked:
         self.found, self.same, self.tried = 0, [], 0
 
     def runs(self, code, address):
-        """All runs, the first that meets the change before the others."""
+        """All runs; those that meet the change come first."""
         cases = [(flag, entry) for entry in code.kind.entries for flag in FLAGS]
         return sorted(cases, key=lambda case: address is not None and address not in self.met[case[0]])
 
@@ -110,7 +110,7 @@ class Attacked:
                 return
         try:
             read_with(self.code, [bit]).validate()
-        except Fault:  # (of a module each instruction may be well and not fit to the others)
+        except Fault:  # (in a module, a valid instruction may not fit the others)
             self.found += 1
             return
         self.same.append(what)
@@ -129,7 +129,7 @@ class Attacked:
         return len(others)
 
     def bit(self, address, at):
-        return self.code.place(address) + at, random.randrange(7)
+        return self.code.place(address) + at, random.randrange(8)
 
     def draw(self):
         met, count = sorted(set.union(*self.met)), 0

@@ -24,7 +24,7 @@ def libraries(built):
     for processor in MACHINE.proved:
         output_of('env', 'BACKEND=rattle', 'build/prove', f'{processor}/{ARCHIVE}')
         assert 'backend=rattle' in (OTHER / processor / f'{ARCHIVE}.said').read_text(encoding='utf-8')
-    # (a kernel takes its place in what LLVM made)
+    # (a build with a kernel is copied from those of LLVM)
     for kernel in MACHINE.builds[len(MACHINE.proved):]:
         shutil.copytree(built / kernel, OTHER / kernel, dirs_exist_ok=True)
     output_of('build/link', MACHINE.name, OTHER, OTHER)

@@ -18,14 +18,14 @@ CODE = re.compile(r' +Code start=\w+ end=(\w+) ')
 NAMED = re.compile(r'  \((import|export) ')
 LINE = re.compile(r' ([0-9a-f]+):((?: [0-9a-f]{2})+) +\| *(.*)')
 OPENS, LOW = ('block', 'loop'), (1 << 32) - 1
-# A function with this many multiplications can make blocks; sizes and numbers in strings need fewer.
+# A function with more multiplications than this may compress blocks; computing sizes and parsing numbers needs fewer.
 MANY = 8
-# The global that is the stack pointer, how much of the stack a function asks for, and that this is not there.
+# The global that is the stack pointer, how much stack a function asks for, and the term for a stack without that room.
 STACK_POINTER, LEAST_STACK, NO_STACK = '0', 16, variable('the stack has no room')
 
 
 class Module:
-    """The instructions of a module by their places in the file, and so for each function by its number (`bodies`)."""
+    """The instructions of a module by their places in the file, and those of each function by its number (`bodies`)."""
     clears = ()
 
     def __init__(self, path):
@@ -68,8 +68,8 @@ class Module:
         return self.traps(address + size) if text == 'end' else text == 'unreachable'
 
     def validate(self):
-        """It is a module, and wasm-objdump has read its code. That prints names unchanged, so a line end in one could
-        show other code. A released module has only the names of its imports and exports."""
+        """Fails unless this is a module whose code wasm-objdump has read. It prints names unchanged, so a line end in a
+        name could show other code. A released module has only the names of its imports and exports."""
         run('wasm-validate', '--enable-memory64', '--enable-threads', self.path)
         with tempfile.NamedTemporaryFile() as stripped:
             run('wasm-strip', '-o', stripped.name, self.path)
@@ -99,7 +99,7 @@ class Module:
         return set().union(*(places for places in found if len(places) > MANY))
 
     def begins(self, function):
-        """The functions that have what only this one has."""
+        """The functions with the instructions (`only`) that identify this one."""
         return [number for number, body in self.bodies.items()
                 if {*function.only} <= {text for text, _ in body.values()}]
 
@@ -122,8 +122,8 @@ def led(body):
 
 
 class Wasm(Machine):
-    """Of the globals a function may use the stack pointer alone. In a memory of 32 bits addresses are below 2^32, and
-    stay what they are when they are cut to that."""
+    """The stack pointer is the only global that a function may use. In a memory of 32 bits, addresses are below 2^32,
+    so cutting them to 32 bits changes nothing."""
     stack_pointer, entries = STACK_POINTER, (0, 16, 32, 48)
 
     def __init__(self, code, regions, written, entry):
@@ -151,7 +151,7 @@ class Wasm(Machine):
         return self.operands.pop()
 
     def step(self, name, words):
-        """What an instruction leaves, if anything, but for those that jump."""
+        """What an instruction that does not jump leaves on the stack, if anything."""
         if name.partition('.')[0] in ('local', 'global'):
             return self.move(name, words[0])
         if name in ('i64.const', 'i32.const'):
@@ -185,7 +185,7 @@ class Wasm(Machine):
         return word if self.find(word) else word & LOW
 
     def lacks_stack(self, least, at):
-        """The first question is whether the stack has room, and it has."""
+        """A comparison at the start asks whether the stack has room. We assume that it has."""
         if least != LEAST_STACK or (self.find(at) or [''])[0] != 'stack':
             raise Fault('it compares data')
         return NO_STACK
@@ -195,14 +195,14 @@ class Wasm(Machine):
         return int(self.holds(condition))
 
     def jump(self, to):
-        """Whether it jumps, which it would to a trap if the stack had no room."""
+        """Where it jumps, or None. It would jump to a trap if the stack had no room."""
         chooses = self.pop()
         if chooses is NO_STACK and self.code.traps(to):
             return None
         return to if known(chooses, 'it chooses by data') else None
 
 
-# How many operands an instruction takes off, and what it makes of them, and of the offset that it may have.
+# How many operands an instruction takes off the stack, and what it makes of them and of its offset, if any.
 OPERATIONS = {
     'i64.add': (2, lambda _, x, y: add(x, y)), 'i64.sub': (2, lambda _, x, y: x - y & MASK),
     'i64.mul': (2, lambda _, x, y: x * y & MASK), 'i64.xor': (2, lambda _, x, y: x ^ y),

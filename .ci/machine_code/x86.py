@@ -49,8 +49,8 @@ class X86(Machine):
     return_address = pop
 
     def fault(self, words, cleared):
-        """What is wrong too where words of blocks stay in a vector, but in the halves that the driver clears: memset
-        leaves nothing there."""
+        """What is wrong. It is also wrong if words of blocks stay in a vector, except in the halves that the driver
+        clears. memset leaves nothing there."""
         known = self.fresh('left')
         stay = [name for at, name in enumerate(VECTORS) if not all(
             word in (0, before, left) for word, before, left in [
@@ -101,7 +101,7 @@ def operand(text, mnemonic):
 
 
 def by_lanes(function):
-    """A function of two words each of vectors, and of a number."""
+    """Applies a function to each two words of vectors, and a number."""
     def done(*operands):
         vectors, rest = ([value for value in operands if isinstance(value, tuple)],
                          [value for value in operands if isinstance(value, int)])
@@ -111,7 +111,7 @@ def by_lanes(function):
 
 
 def places(words, width, count):
-    """The elements of words that are numbers, each of them a place. In the upper half of a vector LLVM counts on."""
+    """The elements of words that are numbers, each of them a place. LLVM goes on counting in a vector's upper half."""
     found = [word >> at & (1 << width) - 1 for word in words if isinstance(word, int) for at in range(0, BITS, width)]
     if len(found) < len(words) * BITS // width or {place // count for place in found} not in ({0}, {1}):
         raise Fault('it shuffles by other than places')
@@ -153,7 +153,7 @@ def added_to_both(words, one, other, table):
     return tuple(x ^ y ^ z for x, y, z in zip(words, one, other))
 
 
-# What instructions make of the operands that they read. For old ones of vectors the first is the one that is written.
+# What instructions make of the operands that they read. Those of ONTO also read the first one, which they write.
 UNALIGNED = 'movups', 'movupd', 'movdqu', 'movdqu32', 'movdqu64'
 MOVES = 'movaps', 'movapd', 'movdqa', 'movdqa32', 'movdqa64', *UNALIGNED
 XOR = dict.fromkeys(('pxor', 'pxord', 'pxorq', 'xorps', 'xorpd'), each(lambda x, y: x ^ y))

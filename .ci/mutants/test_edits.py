@@ -63,7 +63,7 @@ def test_a_named_edit_is_judged_and_an_unknown_name_fails(top, judged):
 
 
 def test_an_edit_that_passed_is_judged_again_only_if_something_changes(top, judged):
-    """Others are judged again."""
+    """Edits that failed are judged again each time."""
     good, harmless = ({name: judged[1][name]} for name in ('sample/good', 'sample/harmless'))
     assert [run(top, *words, 'good') for words in (['--kept'], ['--kept'], [])] == [(0, good), (0, {}), (0, good)]
     assert run(top, '--kept', 'harmless') == run(top, '--kept', 'harmless') == (1, harmless)

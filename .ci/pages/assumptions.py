@@ -81,7 +81,7 @@ def declared(path, top):
 
 
 def write_reports(top):
-    """Writes docs/reports.txt. If any is not built, all lists stay."""
+    """Writes docs/reports.txt. If any file is not built, all lists stay as they are."""
     fill(REPORTS, 'the toolchain', lines_of_the_toolchain(top), 'assumptions')
     reports = {name: report_of(*which) for name, which in BUILT.items()}
     lacking = [name for name, report in reports.items() if not report]

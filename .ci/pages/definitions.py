@@ -21,7 +21,8 @@ STEPS = ['proved_argon2_job_begin', 'proved_argon2_job_fill', 'proved_argon2_job
          'any_order_of_steps']
 PRINTED = ['hash_raw', 'verify_encoded_within', 'proved_argon2_hash_over', 'proved_argon2_verify_over']
 CODE = {path: read(path) for path in sorted(TOP.glob('crates/*/src/**/*.rt'))}
-# An import of definitions, how one begins, and one of a type of the code; a definition; and one below no comment.
+# How an import of definitions begins, a whole one, and one of a type of the code; a definition; and one without a
+# comment above it.
 BEGIN = r'^ *(?:ghost use|use(?= \w+\.)) '
 IMPORT = re.compile(BEGIN + r'((?:\w+\.)*\w+)(?:\.\{([^}]*)\}| as \w+) ?(?:;|$)', re.M)
 OF_A_TYPE = re.compile(r'\.declared\.[a-z0-9_.]*([A-Z]\w*)')
@@ -109,14 +110,14 @@ def clauses_of(call):
 
 
 def contracts(calls):
-    """The contracts of the printed calls, and the files of the others, with a hash of their text. One with
-    `_sequential` has that of the call without it."""
+    """The contracts of the printed calls, and the files of the others, with a hash of their text. A call with
+    `_sequential` has the contract of the call without."""
     printed, places = [call for call in calls if call.name in PRINTED], defaultdict(list)
     for call in calls:
         if call not in printed and '_sequential' not in call.name:
             places[call.module.file].append(call.name)
     return [*['```rust', *map(contract_of, printed), '```', ''] * bool(printed),
-            f'Contracts in the code (hash `{hash_of(contract_of(call) for call in calls)}`):', '',
+            f'Contracts in the code (hash of their text: `{hash_of(contract_of(call) for call in calls)}`):', '',
             *(wrapped(f'- {link(path.name, path)}: {quoted(names)}', '  ') for path, names in places.items())]
 
 
@@ -140,7 +141,7 @@ def check(root):
     standard = {*TOP.glob('crates/*/specs/Standard/*.antt')}
     bare = [f'{name} in {file}' for file in standard for name in BARE.findall(read(file))]
     others = standard ^ root.own
-    require(not others, f'files below the root calls in no folder Standard, or there and below none: {others}')
+    require(not others, f'root calls rest on these outside of folders Standard, or not on these in them: {others}')
     require(not bare, f'definitions without a comment: {bare}')
 
 
@@ -160,4 +161,4 @@ def write_all():
     views = {view: found for door in known.values() for view, found in door.views.items()}
     places = ', '.join(link(view, path) for view, (path, _) in sorted(views.items()))
     hashed = hash_of(text for _, (_, text) in sorted(views.items()))
-    fill(PAGE, 'views', [wrapped(f'In the code (hash `{hashed}`): {places}.')], 'definitions')
+    fill(PAGE, 'views', [wrapped(f'In the code (hash of their text: `{hashed}`): {places}.')], 'definitions')

@@ -27,12 +27,13 @@ TYPES = {
 }
 # The errors from 64 on that Go's calls return.
 OTHERS_OF_GO = 'too_costly', 'no_random_bytes', 'old_processor'
-# Patterns for a mark's value, some by the mark's name, and for the blank between words.
+# Patterns for a placeholder's value, some by its name, and for the blank between words.
 VALUE, BLANK = r'\d(?:[\d_,]*\d)?(?: [KMG]iB)?', r'\s+(?:(?:///|//|#|\*|--) )?'
-OF_MARK = {'.': r'[^\d().]{1,40}', 'v': r'\d+\.\d+\.\d+', **dict.fromkeys('ngh', r'[\d_]+'), 'logic': r'\w+',
-           **dict.fromkeys(('memory', 'work'), r'\d+ [KMG]iB'), 'Name': '[^\n"]*?', 'Publisher': '[^\n"<]*?',
-           'Contact': r'[^\s"<]+@[\w.-]+\w', 'Address': 'https://[^\\s"`]*', 'path': r'[\w.-]+/[\w.-]+',
-           'kits': r'rattle-kit-[\w\s`-]*\w'}
+OF_PLACEHOLDER = {
+    '.': r'[^\d().]{1,40}', 'v': r'\d+\.\d+\.\d+', **dict.fromkeys('ngh', r'[\d_]+'), 'logic': r'\w+',
+    **dict.fromkeys(('memory', 'work'), r'\d+ [KMG]iB'), 'Name': '[^\n"]*?', 'Publisher': '[^\n"<]*?',
+    'Contact': r'[^\s"<]+@[\w.-]+\w', 'Address': 'https://[^\\s"`]*', 'path': r'[\w.-]+/[\w.-]+',
+    'kits': r'rattle-kit-[\w\s`-]*\w'}
 
 
 def one_line(text):
@@ -41,7 +42,7 @@ def one_line(text):
 
 
 def presets():
-    """What each mark stands for, by a preset."""
+    """What each placeholder stands for, by a preset."""
     text = one_line(read('crates/argon2_standard/src/config.rt'))
     found = [preset.groupdict() for preset in PRESET.finditer(text)]
     require(len(found) == text.count('pub fn') - text.count('&self)'), 'a preset of config.rt has another form')
@@ -64,8 +65,8 @@ def memory_of(kib):
 
 
 def default_limits():
-    """What each mark means for the default limits: <q> the most passes with all memory, <k> the most memory with all
-    passes. Capital letters mean one more."""
+    """What each placeholder means for the default limits: <q> the most passes with all memory, <k> the most memory with
+    all passes. Capital letters mean one more."""
     text = read('crates/argon2/src/limits.rt').partition('fn default() -> Limits')[2]
     grouped = dict(zip('mtpw', re.findall(r': (\d[\d_]*),', text)))
     m, t, p, w = (int(value.replace('_', '')) for value in grouped.values())
@@ -77,7 +78,7 @@ def default_limits():
 
 
 def project():
-    """What each mark means for version and publisher."""
+    """What each placeholder means for version and publisher."""
     found, version = dict(re.findall(r'^(\w+): (.+)$', read('PROJECT'), re.M)), read('VERSION').strip()
     major, minor, patch = map(int, version.split('.'))
     number = major * 1_000_000 + minor * 1000 + patch
@@ -88,7 +89,7 @@ def project():
 
 
 def options():
-    """What each mark means, for each C option."""
+    """What each placeholder means, for each C option."""
     header = read('bindings/c/include/proved_argon2_threads.h')
     inside = re.search(r'struct proved_argon2_options \{\n(.*?)^\}', header, re.S | re.M)[1]
     return [{'name': name, 'declared': declared, **dict(zip(('rust', 'zero', 'python'), TYPES[kind.strip()]))}
@@ -96,7 +97,7 @@ def options():
 
 
 def builds(machine):
-    """What each mark means for all builds of a machine together, and for each build, the oldest first."""
+    """What each placeholder means for all builds of a machine together, and for each build, the oldest first."""
     each = [{'name': build, 'word': build.replace('-', '_'), 'WORD': build.replace('-', '_').upper(),
              'FLAGS': ', '.join(flags).upper(), 'flags': ' '.join(flags)}
             for build, flags in flags_of_builds().items() if build in machine.builds]
@@ -106,7 +107,7 @@ def builds(machine):
 
 
 def errors():
-    """What each mark means for each error; <pad> aligns the comments of the header's list below one another."""
+    """What each placeholder means for each error; <pad> aligns the comments of the header's list below one another."""
     found = [line.split(' | ', 3) for line in lines(TOP / 'crates/argon2_c/errors.txt')]
     snake = {name: re.sub(r'(?<!^)(?=[A-Z])', '_', name) for _, name, *_ in found}
     for number, name, message, words in found:
@@ -149,12 +150,12 @@ def lists():
 
 
 def put_in(values, form):
-    """A form with values in the place of its marks, as `<name>`."""
+    """A form with values in place of its placeholders, as `<name>`."""
     return re.sub(r'<(\w+)>', lambda mark: values.get(mark[1], mark[0]), form)
 
 
 def part_of(form, items):
-    """The text that is written between a place's marks: the form for each item. Items in <wrap> become one wrapped
+    """The text of a generated part: the form for each item. Items in <wrap> become one wrapped
     list, sorted as `rt fmt` sorts imports."""
     before, *wrap = re.split('</?wrap>', form)
     if not wrap:
@@ -167,7 +168,7 @@ def with_values(text, form, values):
     """A text with these values in all places of a form, and the number of these places. Blanks, line ends and what
     stands for <.> are kept."""
     pieces = re.split(r'<(\w+|\.)>', form)
-    kinds = [OF_MARK.get(piece, VALUE) if at % 2 else re.sub(r'(?:\\ )+', lambda _: BLANK, re.escape(piece))
+    kinds = [OF_PLACEHOLDER.get(piece, VALUE) if at % 2 else re.sub(r'(?:\\ )+', lambda _: BLANK, re.escape(piece))
              for at, piece in enumerate(pieces)]
     return re.subn(''.join(f'({kind})' for kind in kinds), lambda found: ''.join(
         values.get(piece, old) if at % 2 else old for at, (piece, old) in enumerate(zip(pieces, found.groups()))), text)

@@ -1,7 +1,7 @@
 """What pages name exists, judged by its spelling:
 
 - a path is what has a `/` or the ending of a file of this repository, between backquotes, in a link or as a command;
-- a command is a line of four blanks or of a fence for sh, or words between backquotes that begin with a command;
+- a command is a line after four blanks or in a fence for sh, or words between backquotes that begin with a command;
 - a name of the code is a word with `_` or `::` between backquotes. Each part has to stand somewhere in the sources, and
   in the file to which it is a link.
 

@@ -16,7 +16,7 @@ LAYER = re.compile(r'<!-- (.*) -->\n<g transform=.*><text x="8" y="14" class="ow
 PROMISED = {'argon2_blocks', 'argon2_standard', 'argon2_memory', 'argon2_fill', 'argon2_text', 'argon2',
             'argon2_commands', 'argon2_tool', 'argon2_c'}
 
-# Forms that a reader would not expect, as the page of decisions names them.
+# Unexpected forms of the code, which the page of decisions has to name.
 FORMS = (
     '`Memory::wipe` and `prepare_memory` write blocks too', 'computes the hash once for both lines',
     'does not read its input behind the byte', '`run` is in `argon2_commands`', '`./argon2` writes lines of its own',
@@ -63,7 +63,7 @@ def test_the_oldest_c_library_is_the_newest_that_release_asks_for(page):
 
 
 def test_each_layer_of_the_picture_names_the_calls_or_files_behind_it():
-    """A call of this way proves it, or a file checks or tests it."""
+    """Each word: a call of this way in proves it, or a file checks or tests it."""
     picture, there = read('docs/what-is-proved.svg'), {*files(), *(path for path, *_ in rows(TOP / PROMISES))}
     ways = {int(x) - 27: begun.split() for begun, x in WAY.findall(picture)}
     layers = [(shown.split(), re.findall(r'#(\w+)" x="(\d+)"', words)) for shown, words in LAYER.findall(picture)]

@@ -35,7 +35,7 @@ OLD, NEW = 'cx16 lahf_lm popcnt pni sse4_1 sse4_2 ssse3'.split(), 'avx avx2 bmi1
 
 @pytest.fixture(scope='session')
 def compared():
-    """Forges and runs what was built here."""
+    """Compares release/ with what is built here."""
     output_of('build/release')
 
 
@@ -67,16 +67,16 @@ def in_copy(copy, *words, **how):
 
 
 def on_processor(launcher, flags, tmp_path, *before):
-    """With what Linux says of a processor with these flags."""
+    """Runs a launcher where /proc/cpuinfo names a processor with these flags."""
     (tmp_path / 'cpuinfo').write_text(f'processor\t: 0\nflags\t\t: fpu {" ".join(flags)}\n', encoding='utf-8')
     return run(*in_namespace(CPUINFO, tmp_path / 'cpuinfo', *before, launcher, *WORDS), input='password')
 
 
 @needs_root
 def test_launchers_take_the_build_for_the_processor(copy, tmp_path):
-    """They start at once, and say once where the build comes from. In a clone, the older build runs if a feature is
-    missing; the installed program chooses its build itself. Neither runs on too old processors. Stand-ins print which
-    tunables they get, the user's or ours."""
+    """They start within seconds, and say once where the build comes from. In a clone, the older build runs if a feature
+    is missing; the installed program chooses its build itself. Neither runs on too old processors. Stand-ins print
+    which tunables they get, the user's or ours."""
     began, prefix, newer = time.monotonic(), tmp_path / 'chosen', 'the newer one glibc.malloc.'
     launchers = prefix / 'bin/proved-argon2', copy / 'argon2'
     stand_in = '#!/bin/sh\necho the newer one "$GLIBC_TUNABLES"\n'
@@ -100,7 +100,7 @@ def test_launchers_take_the_build_for_the_processor(copy, tmp_path):
 # ---- what is refused
 
 def forge(*names, is_listed=False):
-    """Changes the last byte of files of release/, whose sums may be listed."""
+    """Changes the last byte of files of release/, and lists their new sums if `is_listed`."""
     def plant(copy):
         for name in names:
             content = (copy / 'release' / name).read_bytes()
@@ -119,7 +119,7 @@ def edit(file, pattern, other):
 
 
 def take_sum(copy, name):
-    """The list's sum of a file becomes that which it has."""
+    """Lists the sum that a file has now."""
     own = hashlib.sha256((copy / 'release' / name).read_bytes()).hexdigest()
     edit('release/MANIFEST', f'^.*  {name}$', f'{own}  {name}')(copy)
 
@@ -177,7 +177,7 @@ assert len(FORGERIES) == 14
 @needs_root
 @pytest.mark.parametrize('name', FORGERIES)
 def test_a_forgery_is_found(copy, tmp_path, request, name):
-    """Where it is compared with what is built, which is current, since marks are content."""
+    """For build/release, the copy gets what is built here, which is current there: notes hold hashes, not times."""
     (plant, commands, expected), made = FORGERIES[name], tmp_path / 'made/there'
     assert commands and expected
     if COMPARE in commands:
@@ -193,7 +193,7 @@ def test_a_forgery_is_found(copy, tmp_path, request, name):
     assert not (tmp_path / 'made').exists()
 
 
-# Stand-ins for other versions here than the list names, and for a root with the listed ones, which links what release/
+# Stand-ins: other versions are installed here than the list names, and a root with the listed ones links what release/
 # has.
 STAND_INS = {
     'dpkg-query': '/usr/bin/dpkg-query "$@" | sed "s/wabt=[^ ]*/wabt=0/"', 'debootstrap': 'mkdir -p "$4"',
@@ -202,7 +202,7 @@ STAND_INS = {
 
 @needs_root
 def test_what_only_the_listed_versions_link_is_named(compared, copy, tmp_path):
-    """So a compiler that somebody replaced there is seen."""
+    """So a replaced compiler is seen."""
     shutil.copytree(TOP / 'bindings/out', copy / 'bindings/out', symlinks=True)
     forge('x86_64/argon2', is_listed=True)(copy)
     for name, text in STAND_INS.items():

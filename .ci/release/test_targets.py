@@ -4,7 +4,7 @@
   calls (SEED, or any) of our libargon2 beside Debian's, the crate's tests, packages.
 - The machine code of the library for Windows (build/link) has to be what the toolchain made for Linux, touch nothing
   below the stack pointer, and extend a stack page by page. The crate passes its tests.
-- The library as C compiles where only a compiler is here, and ./install does so.
+- The library as C compiles for systems of which only a compiler is here, and ./install compiles it.
 """
 import os
 import re
@@ -154,7 +154,7 @@ def test_command_on_arm_prints_the_same(on_arm, words):
 
 
 def test_addon_hashes_on_arm(on_arm, tmp_path):
-    """With as much of Node as a hash takes."""
+    """With a stand-in for the part of Node that a hash needs."""
     compile_for_arm(TOP / 'bindings/tests/addon.c', tmp_path / 'addon', '-I', TOP / 'bindings/javascript/addon',
                     '-rdynamic')
     assert output_of(*arm(tmp_path / 'addon', on_arm / 'proved_argon2.node')).strip() == f'0 0 8 {TAG}'
@@ -187,7 +187,7 @@ def test_packages_of_debian_for_arm(packages, tmp_path):
 # ---- Rust
 
 def passes_its_tests(target, made, folder, linker, runner, flags=''):
-    """(Debian's cargo, over Debian's crates. Where a panic is shown with what led to it, wine's dbghelp fails.)"""
+    """(Debian's cargo, over Debian's crates. RUST_BACKTRACE is 0, since wine's dbghelp fails at a backtrace.)"""
     (folder / 'cargo').mkdir()
     (folder / 'cargo/config.toml').write_text(CRATES_OF_DEBIAN, encoding='utf-8')
     of, crate = f'CARGO_TARGET_{target.upper().replace("-", "_")}', TOP / 'bindings/rust'
@@ -223,7 +223,7 @@ KEPT = '. = ALIGN({}); INPUT_SECTION_FLAGS (SHF_ALLOC & !SHF_EXECINSTR) *{}.o(*)
 
 
 def alignment_of(file):
-    """That of the constants of an object, which are one section for Windows."""
+    """The alignment of an object's constants, which are one section for Windows."""
     return max(map(int, re.findall(r'\] \.(?:ro)?data\S* .* (\d+)$', output_of('readelf', '-SW', file), re.M)))
 
 

@@ -39,7 +39,7 @@ def has_processor(build):
 
 
 def checks_at_once(rt):
-    """As many as fit into memory: one of the largest crate took four fifths of 3 GB."""
+    """As many as fit into memory: a check of the largest crate took four fifths of 3 GB."""
     return max(1, min(rt.processors(), int(rt.free() / 3_000_000_000)))
 
 

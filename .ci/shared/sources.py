@@ -8,8 +8,8 @@ from itertools import accumulate
 
 from shared import TOP
 
-# What begins or ends with a line: a block of a type or a trait, and a whole function, whose body ends where its
-# indentation comes back. One that only declares it ends with `;` before any `{` that ends a line.
+# Matches the lines that begin or end a block of a type or a trait, and whole functions. A function's body ends where
+# its indentation comes back; a declaration without a body ends with `;` before any `{` that ends a line.
 ITEM = re.compile(r'''
     ^\}$ |
     ^(?:impl(?:<[^{]*?>)?\ (?:(?:fmt::|std::\w+::)?(?P<trait>.+)\ for\ )?|(?P<of_trait>(?:pub(?:\(crate\))?\ )?trait\ ))
@@ -25,10 +25,10 @@ RE_EXPORT = re.compile(r'^pub use ([\w:]+?)(?:::\{([^}]*)\})?;', re.M)
 PROMISE = re.compile(r'^( *)(?:requires|ensures|ghost)\b.*(?:\n\1(?: .*|\}.*))*', re.M)
 # What the checker may put before a name where it spells a trait or a type.
 AROUND = r'(?:Array|Slice|Ref|Tuple\d+)*'
-# A crate's mutants: each one that `rt ci` also tries has its own file in a folder, and each other a block in one file.
+# A crate's mutants: each one that `rt ci` also tries has its own file in a folder; the others are blocks of one file.
 TRIED_ALONE, MUTANTS = 'must-fail', 'mutants.txt'
-# Crates with theorems that no contract names: mutants may change statements and clauses. Elsewhere, mutants whose goal
-# is a lemma may change statements.
+# This file marks crates with theorems that no contract names: mutants may change statements and clauses. Elsewhere,
+# mutants whose goal is a lemma may change statements.
 STATEMENTS = 'specs/Statements.antt'
 REFUSED, PROVED = 'refused', 'proved'
 PAIR = re.compile(r'(?:^file: (.+)\n)?^old: (.+)\nnew: ?(.*)$', re.M)
@@ -50,8 +50,8 @@ def spelled(name):
 
 
 class Function:
-    """A function: its module, its type `of` and what trait it is of, and its lines, `begin` with its attributes.
-    `owner` is `Board` or `Default for Config`, and `folders` say where its proofs stand below proofs/."""
+    """A function: its module; its type (`of`) and trait (`what`); and its lines, from `begin`, where its attributes
+    are. `owner` is, for example, `Board` or `Default for Config`. `folders` say where its proofs are below proofs/."""
 
     def __init__(self, module, found, owner):
         self.module, self.name, self.indent, self.path = module, found['name'], found['indent'], None
@@ -74,8 +74,8 @@ class Function:
 
 
 class Module:
-    """One file of src/, or a public module within one, which has no file: its functions, what it names to its users,
-    and what of that it passes on by which path."""
+    """One file of src/, or a public module within one, whose `file` is None: its functions, the names that users see,
+    and the paths of those names that it re-exports."""
 
     def __init__(self, path, text, file=None):
         self.path, self.text, self.file = path, text, file
@@ -120,7 +120,7 @@ class Sources:
         self.modules |= {path: Module(path, text, file), **{at: Module(at, inside) for at, inside in inner.items()}}
 
     def walk(self, place, public):
-        """Notes the public path under which an item is found, one of argon2, and the shortest, and of what is in it."""
+        """Notes the public path of an item, preferably in argon2 and then the shortest, and of all that is in it."""
         holder, module = self.modules.get(place[:-1]), self.modules.get(place)
         if holder and place[-1] in holder.exports:
             path = holder.exports[place[-1]]
@@ -156,7 +156,7 @@ class Edit:
         self.fault = next(self.faults(counts, sources), None)
 
     def parse(self):
-        """Each pair of texts, behind the file in which the second replaces the first; none if this is no edit."""
+        """The file of each pair of texts, and the pair: the second replaces the first. None if this is no edit."""
         found = PAIR.findall(self.text) if EDIT.fullmatch(self.text) else []
         files = accumulate((path for path, *_ in found), lambda last, path: path or last)
         return [(TOP / 'crates' / self.crate / file, *texts) for file, (_, *texts) in zip(files, found)]
@@ -203,7 +203,7 @@ def blocks_of_edits(folder):
 
 
 def edits(sources):
-    """All mutants, folder by folder: also those of one that crates.txt lacks, which nothing tries."""
+    """All mutants, folder by folder, also those of a folder that crates.txt lacks, which nothing else tries."""
     found = [Edit(folder.name, block, sources) for folder in sorted(TOP.glob('crates/*/'))
              for block in blocks_of_edits(folder)]
     assert found, 'there is no edit'
