@@ -11,6 +11,7 @@ JAVA, TESTS = TOP / "bindings/java", TOP / "bindings/tests"
 LIBRARIES = [f"/usr/share/java/{name}.jar" for name in ("junit-platform-console-standalone", "bcprov")]
 LINT = "-Xlint:all,-path", "-Werror"
 NEWER = "trixie"  # Debian's release with Java 21 and 25
+DATED = {"SOURCE_DATE_EPOCH": 1700000000}
 pytestmark = [needs("javac"), pytest.mark.timeout(2400)]
 # Native calls of CodesTest, beside codes.c.
 CODES_OF_JAVA = """#include <jni.h>
@@ -97,7 +98,7 @@ exec chroot "$system" env -C "$PWD" "${@:2}"
 def jar(tmp_path_factory):
     """With only this machine's library. (The compiler has no warning about the package.)"""
     file = tmp_path_factory.mktemp("jar") / "proved-argon2.jar"
-    run(JAVA / "pack", file, built() / MACHINE, env={"SOURCE_DATE_EPOCH": 1700000000})
+    run(JAVA / "pack", file, built() / MACHINE, env=DATED)
     return file
 
 
@@ -154,6 +155,20 @@ def test_its_own_tests_pass_in_newer_java(jar, classes, drawn, system, version):
     java = f"/usr/lib/jvm/java-{version}-openjdk-amd64/bin/java"
     passes(68, "unshare", "--mount", "--propagation", "private", "bash", "-euc", ELSEWHERE, "bash", system, *folders,
            "--", java, *words_of(jar, classes, drawn, *USUAL))
+
+
+@needs("aarch64-linux-gnu-gcc", "qemu-aarch64-static")
+def test_its_own_tests_pass_on_arm64(classes, drawn, tmp_path):
+    """Except for one that asks for 2 TiB, for each page of which qemu would need memory."""
+    jar, root = tmp_path / "proved-argon2.jar", TOP / "out/aarch64/root"
+    made = start(TESTS / "aarch64_root", root)
+    if made.returncode == 77:
+        pytest.skip("Debian's packages for ARM64 cannot be had")
+    assert made.returncode == 0, made.stderr
+    run(JAVA / "pack", jar, built("aarch64") / "aarch64", env=DATED)
+    java = root / "usr/lib/jvm/java-17-openjdk-arm64/bin/java"
+    words = words_of(jar, classes, drawn, *USUAL, "--exclude-tag", "terabytes")
+    passes(67, "qemu-aarch64-static", "-L", root, java, *words)
 
 
 def test_each_public_member_is_documented(tmp_path):
@@ -221,16 +236,19 @@ def test_the_service(jar, tmp_path):
     assert "logged in: root" in done.stderr and not re.search("^logged in: root", done.stderr, re.M)
 
 
-@needs("musl-gcc")
-def test_musl_loads_the_library_of_the_jar(jar, tmp_path):
-    """Without the rest of Java."""
+@pytest.mark.parametrize("compiler, machine, name, words", [
+    pytest.param("musl-gcc", MACHINE, f"linux-{MACHINE}.so", [], marks=needs("musl-gcc"), id="musl"),
+    pytest.param("x86_64-w64-mingw32-gcc-posix", "windows-x86_64", "windows-x86_64.dll", ["wine"], id="windows",
+                 marks=needs("x86_64-w64-mingw32-gcc-posix", "wine"))])
+def test_the_native_calls_hash_and_verify_where_no_java_runs(tmp_path, compiler, machine, name, words):
+    jar, program = tmp_path / "proved-argon2.jar", tmp_path / "native_calls.exe"
+    include = [f"-I{folder}" for folder in headers()]
+    run(JAVA / "pack", jar, TOP / "release" / machine, env=DATED)
     with zipfile.ZipFile(jar) as packed:
-        packed.extract(f"proved/argon2/native/linux-{MACHINE}.so", tmp_path)
-    (tmp_path / "loads.c").write_text(
-        '#include <dlfcn.h>\nint main(int argc, char **argv)\n{\n    void *own = dlopen(argv[argc - 1], RTLD_NOW);'
-        '\n    return own == 0 || dlsym(own, "Java_proved_argon2_Native_hash") == 0;\n}\n')
-    run("musl-gcc", tmp_path / "loads.c", "-o", tmp_path / "loads")
-    run(tmp_path / "loads", *tmp_path.rglob("*.so"))
+        library = packed.extract(f"proved/argon2/native/{name}", tmp_path)
+    run(compiler, "-std=c11", "-Wall", "-Wextra", "-Werror", *include, TESTS / "native_calls.c", "-o", program)
+    said = run(*words, program, library, env={"WINEDEBUG": "-all", "WINEPREFIX": tmp_path / "wine"})
+    assert said.split() == ["right"]
 
 
 def test_the_library_can_be_named_and_another_is_an_error(jar, tmp_path):

@@ -9,6 +9,7 @@ import static org.junit.jupiter.api.Assertions.assertTrue;
 
 import java.util.Optional;
 import java.util.concurrent.TimeUnit;
+import org.junit.jupiter.api.Tag;
 import org.junit.jupiter.api.Test;
 import org.junit.jupiter.api.function.Executable;
 import org.junit.jupiter.params.ParameterizedTest;
@@ -113,6 +114,7 @@ class PasswordHasherTest {
     }
 
     @Test
+    @Tag("terabytes")
     void deniedMemoryIsAnError() {
         Settings large = SMALL.withMemory(Integer.MAX_VALUE); // 2 TiB
         assertFails(Argon2Exception.OUT_OF_MEMORY, () -> new PasswordHasher(large).hash(new byte[0]));
