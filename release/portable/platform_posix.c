@@ -120,9 +120,9 @@ static void *end_at_once(void *arg)
 }
 
 /* Whether a stack has room for the thread-local variables of the program: glibc takes them from a thread's own stack,
- * and pthread_create returns EINVAL if they do not fit. The guard is larger than the address space, so that otherwise
- * it returns another error, and no thread ever starts. (musl rejects this guard. It allocates the variables beside the
- * stack.) */
+ * and pthread_create returns EINVAL if they do not fit. If they fit, it returns another error, since the guard is
+ * larger than the address space. So no thread ever starts. (musl rejects this guard. It allocates the variables beside
+ * the stack.) */
 static bool has_room_for_variables(size_t stack)
 {
     pthread_t none;

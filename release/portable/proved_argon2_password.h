@@ -21,7 +21,7 @@ extern "C" {
 #define PROVED_ARGON2_SALT_SIZE 16
 
 /*
- * Writes the encoded hash of a password of length bytes, which you store, and then zeros, up to
+ * Writes the encoded hash to store for a password of length bytes, and then zeros, up to
  * PROVED_ARGON2_TEXT_SIZE bytes. The settings are those of proved_argon2_owasp2, and the salt is 16 random bytes from
  * the system. The password may contain zero bytes. After an error text is unchanged.
  */

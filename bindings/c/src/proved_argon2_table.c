@@ -95,7 +95,7 @@ static const struct {
     {PROVED_ARGON2_UNKNOWN_NUMBER, "There is no error of this number"},
     {PROVED_ARGON2_NEEDS_REHASH, "The encoded hash was made with other settings"},
     {PROVED_ARGON2_TOO_COSTLY, "The encoded hash is above the limits"},
-    {PROVED_ARGON2_NO_JOB, "The job is of no accepted call"},
+    {PROVED_ARGON2_NO_JOB, "No valid settings have such a job"},
     {PROVED_ARGON2_NO_PLACE, "The job has no such pass, slice or lane"},
     {PROVED_ARGON2_WRONG_BLOCKS, "There are too many or too few blocks"},
     {PROVED_ARGON2_NULL_POINTER, "A pointer is null"},

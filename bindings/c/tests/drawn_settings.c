@@ -27,7 +27,7 @@ enum {
     LEAST_WORK_FOR_THREADS = 4 << 20
 };
 
-/* KiB: more than a machine has. Only the first pages of each lane are touched. */
+/* KiB: up to more than a machine has. Only the first pages of each lane are touched. */
 #define LARGE ((uint32_t)2 << 20)
 #define MOST_LARGE ((uint32_t)32 << 20)
 
@@ -71,8 +71,8 @@ static size_t length_of(const proved_argon2_settings *of)
     return of->mem_cost / (4 * of->lanes);
 }
 
-/* How many blocks are compressed: those of the matrix in each pass, except the first two of each lane; and two per 128
- * pseudorandom numbers that depend on no block, in each segment (RFC 9106, 3.4.1.2) with more than those two blocks. */
+/* How many blocks are compressed: the matrix in each pass, except in the first the first two of each lane; and two per
+ * 128 pseudorandom numbers that depend on no block, in each segment (RFC 9106, 3.4.1.2) that has other blocks. */
 static size_t blocks_of(const proved_argon2_settings *of)
 {
     const size_t all = 4 * of->lanes * length_of(of),

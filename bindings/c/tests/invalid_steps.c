@@ -163,7 +163,7 @@ static void give_place(uint32_t place)
     pass = slice = lane = place;
 }
 
-/* A job with a number that no accepted call has: each step rejects it first. */
+/* A job with a number that no valid settings have: each step rejects it first. */
 static void check_no_job(const struct number *number)
 {
     uint32_t (*const steps[])(void) = {

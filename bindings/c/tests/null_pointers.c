@@ -1,8 +1,9 @@
 /*
  * Null pointers, call by call: each pointer of the header and of the calls with options is null in turn. The call
- * returns that error before all others, and writes nothing; with length 0 it passes no bytes. test_library.py compares
- * these names with the pointers that the headers declare. Then, without a build for the processor, each call returns
- * OLD_PROCESSOR, and writes nothing. It is linked with --wrap=getrandom, so that a salt is the same each time.
+ * returns NULL_POINTER before all other errors, and writes nothing; a null pointer with length 0 passes no bytes.
+ * test_library.py compares these names with the pointers that the headers declare. Then, without a build for the
+ * processor, each call returns OLD_PROCESSOR, and writes nothing. It is linked with --wrap=getrandom, so that a salt is
+ * the same each time.
  */
 #include "../src/builds.h"
 #include "arguments.h"

@@ -49,7 +49,7 @@ static const known_error known_errors[] = {
     {PROVED_ARGON2_UNKNOWN_NUMBER, 67, "There is no error of this number"},
     {PROVED_ARGON2_NEEDS_REHASH, 68, "The encoded hash was made with other settings"},
     {PROVED_ARGON2_TOO_COSTLY, 69, "The encoded hash is above the limits"},
-    {PROVED_ARGON2_NO_JOB, 70, "The job is of no accepted call"},
+    {PROVED_ARGON2_NO_JOB, 70, "No valid settings have such a job"},
     {PROVED_ARGON2_NO_PLACE, 71, "The job has no such pass, slice or lane"},
     {PROVED_ARGON2_WRONG_BLOCKS, 72, "There are too many or too few blocks"},
     {PROVED_ARGON2_NULL_POINTER, 128, "A pointer is null"},

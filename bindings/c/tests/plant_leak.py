@@ -86,7 +86,7 @@ def objects(archive, folder, prefix=''):
 
 
 def library(folder, cpu=''):
-    """The objects of the library, or of one with the build for a processor alone, of what is proved and up to date."""
+    """The objects of the library, brought up to date, or of a library that has only the build for a processor."""
     run(TOP / 'build/make', 'x86_64')
     built = TOP / 'bindings/out'
     if cpu:

@@ -323,7 +323,7 @@ static void check_reading_within(void)
         "passes above their limit are not read");
     check_code(proved_argon2_read_within(work, strlen(work), &below, &stored), PROVED_ARGON2_TOO_COSTLY,
         "the greatest work, above its limit, is not read");
-    check_code(proved_argon2_read_within("$", 1, &six, &stored), PROVED_ARGON2_DECODING_FAIL, "nor is no text");
+    check_code(proved_argon2_read_within("$", 1, &six, &stored), PROVED_ARGON2_DECODING_FAIL, "`$` is not read");
     check(memcmp(&stored, &before, sizeof stored) == 0, "nothing is written for them");
     check_code(proved_argon2_read_within(passes, strlen(passes), &seven, &stored), PROVED_ARGON2_OK,
         "passes at their limit are read");

@@ -144,7 +144,7 @@ def test_each_pointer_is_null_once():
 
 
 def test_looks_at_what_each_call_leaves():
-    """Except for the calls of a password with options, which are what the calls without options make."""
+    """Except for the password calls with options, which the calls without options call."""
     expected = {'message', *(call for call in calls() if not re.fullmatch('password_.*_with', call))}
     assert {name.split()[0] for program in ('clearing', 'proved_clearing') for name in checks_of(program)
             if re.match(r'\w+ (leaves|clears) ', name)} == expected

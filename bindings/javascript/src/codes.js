@@ -57,7 +57,7 @@ const messages = new Map([
     [67, 'There is no error of this number'],
     [68, 'The encoded hash was made with other settings'],
     [69, 'The encoded hash is above the limits'],
-    [70, 'The job is of no accepted call'],
+    [70, 'No valid settings have such a job'],
     [71, 'The job has no such pass, slice or lane'],
     [72, 'There are too many or too few blocks'],
     [128, 'A pointer is null'],

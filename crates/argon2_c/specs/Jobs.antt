@@ -38,8 +38,8 @@ job_of s len = record {
 abbrev pub max_blocks_in_slice : ℕ
 max_blocks_in_slice = 0x3FFFFFFF
 
--- no accepted call has a job of these numbers: no lanes or too many, segments of fewer than two blocks, slices
--- of too many blocks, no pass, or a tag of fewer than four bytes
+-- no valid settings have a job with these numbers: no lanes or too many, segments of fewer than two blocks,
+-- slices of too many blocks, no pass, or a tag of fewer than four bytes
 abbrev pub is_out_of_bounds : CallerJob → Bool
 is_out_of_bounds job =
     (job.lanes == 0) || nat_lt max_lanes job.lanes || nat_lt job.segment_length 2 || nat_lt max_blocks_in_slice (job.lanes * job.segment_length)

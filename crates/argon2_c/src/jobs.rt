@@ -71,7 +71,7 @@ impl CallerJob {
         }
     }
 
-    /// Whether no accepted call has a job of these numbers, whatever the variant and the version.
+    /// Whether no valid settings have a job with these numbers, whatever the variant and the version.
     fn is_out_of_bounds(&self) -> bool
         ensures { result ≡ is_out_of_bounds self.now }
     {

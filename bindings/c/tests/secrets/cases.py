@@ -1,5 +1,5 @@
-"""Questions to calls.c from the vectors of others, and the expected answers: no report on the way to a tag or a text,
-and a tag, a text's letters or a verdict that are undefined, so that no branch has looked at them before the one here.
+"""Questions to calls.c from the vectors of others, and the expected answers: memcheck reports nothing on the way to a
+tag or a text, and the tag, the text's letters or the verdict are undefined, so no branch has looked at them before.
 Each reading of a stored hash has two branches on all its letters: whether they are ASCII, and whether they are base64.
 A block that another block selects is reported at each place that finds or reads it (test_constant_time.py)."""
 
@@ -26,7 +26,7 @@ OK, DECODING_FAIL, MISMATCH = 0, 19, 64
 FEW_BLOCKS, MAPPED_BLOCKS, CHEAP = 640, 1024, 2048
 # From how many blocks on, and from how many in all passes, C starts threads (proved_argon2_driver.c).
 OF_THREADS, IN_ALL_PASSES = 2048, 4096
-OF_A_TEXT = 4  # reports: of two branches, at two readings (whether it is accepted, and its job)
+OF_A_TEXT = 4  # reports: of two branches, in each of two calls (check_encoded and job_read)
 CAPACITY = 4096
 ASKED, ANSWERED = struct.Struct('<9I' + f'I{CAPACITY}s' * 5), struct.Struct(f'<4I{CAPACITY}s{CAPACITY}s')
 # What calls.c answers.
@@ -88,7 +88,7 @@ class Question(NamedTuple):
         return self.vector.references() if self.code != DECODING_FAIL else 0
 
     def is_right(self, came, reads):
-        """A verdict is hidden, but not that a string is no encoded hash. Of a tag every bit is hidden, of an encoded
+        """A verdict is hidden, but not that a string is no encoded hash. Every bit of a tag is hidden, or of an encoded
         hash at least one bit of each letter of its tag, and nothing else. Each reference is read at `reads` places."""
         is_read = self.code != DECODING_FAIL
         calls_back = is_read and self.options in (PROGRESS, CALLER)
@@ -116,7 +116,7 @@ def with_byte(data, at, byte):
     return data[:at] + bytes([byte]) + data[at:][1:]
 
 
-# ---- the cases: of each vector some questions, the first two where that takes long
+# ---- the cases: some questions for each vector, or only the first two if all take long
 
 def hashes(vector):
     return [Question(HASH_RAW, vector, written=vector.tag)]
@@ -127,7 +127,7 @@ def hashed_texts(vector):
 
 
 def wrong_tags(vector, most=0):
-    """Tags that differ in the first, the last and a drawn byte, or in each where that costs so much at most."""
+    """Tags that differ in the first, the last and a drawn byte, or in each byte if that costs at most `most`."""
     places = range(vector.length) if vector.length * vector.blocks() <= most else (
         0, vector.length - 1, random.Random(vector.salt).randrange(vector.length))
     return [with_byte(vector.tag, at, vector.tag[at] ^ 1 << at % 8) for at in places]
@@ -140,7 +140,7 @@ def verdicts(vector):
 
 
 def stored(text):
-    """A text whose version is 16 as it is also stored, without the version."""
+    """A text as it is also stored if its version is 16: without the version."""
     return text.replace(b'$v=16', b'')
 
 

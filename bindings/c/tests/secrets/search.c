@@ -24,7 +24,7 @@ enum { LEFT, FREED, IN_CALLERS, AT_STOPS };
 extern void *const __libc_stack_end;
 extern __typeof__(free) __libc_free;
 
-/* A piece. Only words are compared with it: a vector might be saved on the stack later. */
+/* A piece. It is compared by words, since a vector register might be saved on the stack later. */
 typedef struct __attribute__((packed, may_alias)) {
     uint64_t low, high;
 } piece;
@@ -37,7 +37,7 @@ struct plan {
 static const struct plan *plan;
 static const uint8_t *program;
 static unsigned found[(AT_STOPS + MOST_PLACES) * MOST_PIECES];
-static uint8_t begins[1 << 16]; /* whether a piece begins with two bytes, so that few places are compared */
+static uint8_t begins[1 << 16]; /* whether a piece begins with these two bytes, so that few places are compared */
 static char maps[MOST_OF_MAPS];
 
 static void look(const uint8_t *from, const uint8_t *to, size_t row)
@@ -82,7 +82,7 @@ __attribute__((noreturn, naked)) void _exit(int status)
     __asm__("int3");
 }
 
-/* Looks, in the first thread, and returns as the program does in place of the breakpoint. */
+/* Looks, in the first thread, and then returns, as the instruction would that the breakpoint replaces. */
 static void stop(int signal, siginfo_t *information, void *context)
 {
     greg_t *const words = ((ucontext_t *)context)->uc_mcontext.gregs;
@@ -107,7 +107,7 @@ void free(void *block)
     __libc_free(block);
 }
 
-/* Has calls do nothing, jumps return, and returns stop. */
+/* Makes dropped calls do nothing, dropped jumps return, and listed returns stop. */
 static void change_program(void)
 {
     static const uint8_t jump = 0xE9, nothing[] = {0x0F, 0x1F, 0x44, 0, 0}, returns[sizeof nothing] = {0xC3};

@@ -1,12 +1,12 @@
 """Asks valgrind's memcheck which branches and addresses of the C library depend on the password, the secret, a hash and
-the letters of a hash, in the four calls that hash and verify, within limits too, in password_hash and password_verify,
-by threads, and in steps over a memory of the caller, who runs their tasks; by both proved builds of the one archive.
-(valgrind knows no AVX-512. In the build for x86-64-v4 the compression alone is another: docs/CLAIMS.md says how it is
-shown to branch on its flag alone and to compute no address.) With Argon2i
-none may, on the way to a tag, a text or a verdict on a hash, except two branches on the letters of a stored hash. With
-Argon2d and Argon2id the addresses may, too, by which a block that other blocks select is found and read, but no further
-branch. Leaks that are planted in the library (plant_leak.py) and in its driver have to be reported, or else this
-sees nothing. calls.c makes the calls, of cases.py. depends.txt has what each case may report.
+the letters of a hash. It covers the four calls that hash and verify (also within limits, by threads, and in steps over
+a memory of the caller, who runs their tasks), password_hash and password_verify, in both proved builds of the one
+archive. (valgrind knows no AVX-512. The build for x86-64-v4 differs only in its compression: docs/CLAIMS.md says how
+that is shown to branch on its flag alone and to compute no address.) With Argon2i, none may depend on these on the way
+to a tag, a text or a verdict on a hash, except two branches on the letters of a stored hash. With Argon2d and Argon2id,
+the addresses at which a block that other blocks select is found and read may too, but no further branch. Leaks that
+are planted in the library (plant_leak.py) and in its driver have to be reported, or else this sees nothing. calls.c
+makes the calls, of cases.py. depends.txt has what each case may report.
 """
 
 import os
@@ -71,7 +71,7 @@ def planted(leak, folder, objects):
 
 @pytest.fixture(scope='module')
 def came(request, tmp_path_factory):
-    """What comes of rows, over calls.c with each leak."""
+    """The result of each row, by calls.c with the row's leak."""
     folder = tmp_path_factory.mktemp('made')
     objects = library(folder / 'objects')
     programs = {leak: compiled(folder / f'calls-{number}', CALLS, *planted(leak, folder, objects).values())
@@ -80,9 +80,9 @@ def came(request, tmp_path_factory):
 
 
 class Came:
-    """What came of a case of vectors, or of a few, in one run: whether that is all, and right, which answers are wrong,
-    and how often each place was reported. Of a report only the innermost function counts, since the library tells a
-    debugger nothing of callers."""
+    """The result of a case in one run, with all its vectors or a few: whether it is complete and right, which answers
+    are wrong, and how often each place was reported. Only a report's innermost function counts, since the library tells
+    a debugger nothing of callers."""
 
     def __init__(self, program, cpu, case, options, kinds, most):
         questions = [one for kind in kinds for asked in of.asked(case, options, *kind)[:most] for one in asked]
@@ -95,7 +95,7 @@ class Came:
         self.is_ended = ran.returncode == 0 and len(answers) == len(questions) > 0
         self.wrong = [answer[:4] for question, answer in zip(questions, answers)
                       if not question.is_right(answer, READS[cpu])]
-        # (of references each is found and read by addresses at so many places, at each once)
+        # (each reference is found and read by addresses at READS places, once at each)
         references = sum(one.references() for one in questions)
         self.is_right = (self.is_ended and not self.wrong and self.places.keys() <= {BRANCH, ADDRESS}
                          and sum(self.places[BRANCH]) == sum(one.branches for one in questions)
@@ -126,8 +126,8 @@ def test_each_leak_is_seen(came, row):
 
 
 def test_all_is_asked():
-    """Each build is, of enough vectors, and each case of depends.txt by the variants that its calls name, and may
-    report what it says."""
+    """Each build is asked of enough vectors, and each case of depends.txt with the variants that CALL names there. A
+    case may report what WORDS says."""
     assert [*READS] == machines()['x86_64'].proved
     asked = {}
     for case, options, kinds in ASKED:

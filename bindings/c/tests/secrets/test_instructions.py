@@ -23,7 +23,7 @@ from toolchain import is_current
 PREFIX, QEMU = 'aarch64-linux-gnu-', 'qemu-aarch64-static'
 SECONDS, LEAST = 600, 100_000  # instructions that a call takes
 # Sums, exclusive ors, products, shifts, rotations and shuffles, moves, comparisons and jumps. For ARM64, ARM
-# guarantees it ("Data Independent Timing"), except for loads and stores, which take no longer for some data.
+# guarantees this ("Data Independent Timing"), except for loads and stores, whose time depends on no data either.
 X86 = re.compile(
     r'v?p((add|sub)[bdwq]|and|xor[dq]?|or|ternlog[dq]|ro[lr][dq]'
     r'|mul(udq|ld)|maddwd|(max|min)ud|cmp(eq|gt)[bdq]|s[rl][la]v?[dwq]|shuf[bd]'
@@ -46,8 +46,8 @@ ARM64 = re.compile(
 NEVER_STEADY = 'div divl idiv idivq divsd sqrtsd vdivps udiv sdiv fdiv frecpe fsqrt'.split()
 # Multiplications of the compression: an object without them was not examined.
 PRODUCT = re.compile('v?pmuludq|um(ull|lal)2?')
-# The other instructions, with how many there are: divisions by numbers of the settings. Those of a segment have the
-# lane that a block draws, which the address of the next one tells anyhow.
+# The other instructions, with how many there are: divisions by numbers of the settings. Those of a segment yield the
+# lane that a block selects, which the next reference's address reveals anyhow.
 DIVIDING = {'accepted_context': 1, 'proved_argon2_memory_len': 1, 'fill_caller_segment': 3}
 # What the calls of a build begin with, in the archive that has both.
 OF_BUILD = re.compile(r'^proved_(?:x86_64_v\d|armv8_a(?:_neon)?)_')
@@ -63,7 +63,7 @@ LONGER = b'a password that is longer than a block of BLAKE2b' * 3
 # ---- which instructions there are
 
 def unsteady(path, steady, prefix=''):
-    """The instructions of what is proved, which is an object, that are not on a list: how many each function has."""
+    """How many instructions of each kind, not on the list `steady`, each function of a proved object has."""
     found, function = Counter(), None
     for line in run(f'{prefix}objdump', '-d', '--no-show-raw-insn', path).splitlines():
         if re.match(r'[0-9a-f]+ <.*>:$', line):
@@ -80,7 +80,7 @@ def test_no_division_is_on_a_list():
 
 @pytest.mark.parametrize('cpu', machines()['x86_64'].builds)
 def test_instructions(tmp_path, cpu):
-    """A build divides where it is named alone, and a division by a byte of a tag is seen."""
+    """A build divides only in the functions of DIVIDING, and a division by a byte of a tag is seen."""
     own, divided = library(tmp_path / 'objects')[f'proved_argon2_{cpu}.o'], tmp_path / 'divided.o'
     plant_leak.main(own, 'division_by_a_byte', divided)
     assert unsteady(own, X86) == {(function, 'div'): count for function, count in DIVIDING.items()}

@@ -39,13 +39,13 @@ BRANCH = re.compile(r'^ +([0-9a-f]+):\t(call|jmp|ret)(?:[^<\n]*<([^+\n]*?)(?:::<
 OVERWRITING = ('argon2_blocks::blake2b::wipe', 'argon2_fill::stack_wiping::wipe_stack', 'proved_driver_overwrite',
                'clear_stack')
 COMPUTING, ENDING = r'argon2::(hashing|verifying)::(texts::)?\w+_in(_sequential)?', 'argon2::ending::release'
-# A function that leaves nothing where it returns: what it leaves for some lanes alone is missed nowhere else.
+# A function that must leave nothing when it returns: what it leaves for only some lanes is noticed nowhere else.
 CLEAN = 'argon2_fill::fill::write_first_block'
-# What calls are given and write, which is anywhere; and what they may leave below them where nothing clears that.
+# What calls are passed and write, which may be anywhere; and what they may leave on the stack if nothing clears it.
 OF_CALLER = ('the tag', 'the password')
 MAY_BE_LEFT = ('H0', *OF_CALLER)
 # How often a program that starts threads is run: a worker that takes no lane leaves nothing, and hides what others
-# left. How often all are looked at where any differs: what chance put into memory is not there each time.
+# left. How often all is repeated if any count differs: what chance put into memory is not there each time.
 TRIES, LOOKS = 9, 6
 # What tests/clearing.c is linked with. Where names are bound late, the loader leaves registers on the stack, which the
 # driver alone clears there.
@@ -63,7 +63,7 @@ OF_A_LONG_TAG = OF_9_LANES._replace(length=5000)
 DROPPED = OF_9_LANES._replace(passes=1, length=32, password=b'password')
 # Of one lane, which starts no worker.
 IN_ONE_LANE, OF_A_CHAIN_IN_ONE_LANE = OURS._replace(lanes=1), OF_A_CHAIN._replace(lanes=1)
-# Tests of each root call that takes no memory of the caller's, and of each that keeps one, which it drops.
+# Tests of each root call that takes no memory of the caller's, and of each that takes one, which the test drops.
 COUNT_OF_TESTS, TESTS = 25, re.compile(
     r'^(\S*\b(?:(?:hash_raw|hash_encoded|verify_raw)_(?:by(?:_two)?_workers|in_one_thread|sequential)(?:_argon2id)?'
     r'|verify_encoded(?:_ext|_within)?(?:_sequential)?|\w+_in(?:_sequential)?_twice)_denied_in_turn): test$', re.M)
@@ -104,7 +104,7 @@ def parts(vector):
 
 @cache
 def blocks_of(vector):
-    """The same of a hash of which no block may be left: two words of one of each segment."""
+    """What is sought of a hash that may leave no block: two words of one block of each segment."""
     setting = rfc9106.Setting(*vector[:-1])
     return [(f'lane {lane}, slice {column // setting.segment}', struct.pack('<2Q', *words[40:42]))
             for (lane, column), words in setting.filled().items() if column % setting.segment == setting.segment - 1]
@@ -158,11 +158,11 @@ class Program:
             yield ['setarch', '-R', 'env', f'LD_PRELOAD={self.preloaded}', f'PLAN={plan.name}', self.path]
 
     def found(self, runs, dropped=(), stops=()):
-        """How often each is found where calls are left out, run by run: at the end, in what is freed, above stops, and
-        at these, by their function."""
+        """How often each piece is found if calls are left out, run by run: at the end, in freed memory, above stops,
+        and below each stop, by its function."""
         where = ['left', 'freed', 'above', *(function for function, _ in stops)]
         for number, one_run in enumerate(runs):
-            # (where threads run, the caller's is not the same each time)
+            # (with threads, the tag and the password are not found equally often)
             sought = [piece for piece in one_run.sought if not one_run.has_threads or piece[0] not in OF_CALLER]
             with self.planned(dropped, stops, sought) as command:
                 done = subprocess.run([*command, *one_run.words], input=one_run.input, capture_output=True,
@@ -219,7 +219,7 @@ def runs_of_library():
 
 
 def judge_library(program):
-    """Behind each call that computes its stack has nothing, and where that is not cleared no more than it may have."""
+    """After each call that computes, the stack has nothing, or if it is not cleared, only what may be left there."""
     stacks = program.calls('wipe_stack')
     computing = {site.function for site in stacks}
     assert len(computing) > 9
@@ -239,8 +239,8 @@ def row(call, vector, mode, *more):
 
 
 def rows():
-    """Runs of that program, with a tag of one hash and of chains, in one thread and by workers: some hash, and others
-    verify, which leave no tag, two of them with one lane, which starts none. And a memory is dropped."""
+    """Runs of that program in one thread and by workers, with tags of one hash and of a chain. Some hash. Others verify
+    and leave no tag; two of these have one lane, which starts no worker. One run drops a memory."""
     every, in_one_lane = (OURS, OF_A_CHAIN, OF_A_LONG_TAG), (IN_ONE_LANE, OF_A_CHAIN_IN_ONE_LANE)
     for modes in (('seq',), ('par', 'max2')):
         hashing = [row(call, *how) for how in product(every, modes) for call in ('hash_raw', 'hash_encoded')]
@@ -294,9 +294,9 @@ def program_of(crate):
 
 
 def judge_program(program):
-    """What a program leaves as it is: nothing but tags and what it was given, and what it frees. Each call that has a
-    memory of its own calls `release`, which is counted: what follows such a call may overwrite what it alone leaves on
-    the stack."""
+    """A program may leave only tags and what it was passed, and what it frees. Each call with a memory of its own calls
+    `release`. These calls are counted, since what follows such a call may overwrite what it alone would leave on the
+    stack."""
     counts = [[sum(bool(re.fullmatch(name, callee)) for *_, callee in places) for name in (COMPUTING, ENDING)]
               for places in program.code.values()]
     assert any(ended for _, ended in counts)
@@ -337,7 +337,7 @@ def test_what_is_left(program):
 
 
 def test_each_wipe_alone(program):
-    """How many calls of each function are missed, and are not, is in one of some looks as the list says."""
+    """In one of LOOKS looks, as many calls of each function are missed, and not missed, as wipes.txt says."""
     expected = wrong = EXPECTED[program.name]
     for _ in range(LOOKS):
         found = Counter((site.callee, site.function, is_missed) for site, is_missed in program.misses())

@@ -7,7 +7,8 @@ use Rattle.argon2_standard.specs.Standard.Prehash.{setting_of}
 use Rattle.argon2_memory.specs.Standard.Kept.{MemoryValue, HoldsFill, IsLeft}
 
 -- the memory before and after a call with a hash of len bytes. If the settings table rejects
--- something, it is unchanged. Otherwise it is that of the computation, or what a resource error leaves
+-- something, it is unchanged. Otherwise it contains the last pass's blocks or, after a resource error, what
+-- `IsLeft` says
 pub record LeavesMemory {A : Type 0} (pwd salt : List ℕ) (config : Config) (len : ℕ) (workers : Bool) (before after : MemoryValue)
     (answer : Result A Error) : Type 0 where
   pub kept : IsSome (table_error config (length pwd) (length salt) len) → after ≡ before

@@ -13,7 +13,7 @@ abbrev pub half_length : ℕ
 half_length = 32
 
 -- W 1, .., W n and then V (n + 1), of `last` bytes, joined. V 1 is the hash of `before`, and each
--- other V that of the one before it (3.3).
+-- further V is the hash of the previous V (3.3).
 unfoldable pub hash_chain : ℕ → ℕ → List ℕ → List ℕ
 hash_chain zero last before = blake2b last before
 hash_chain (suc n) last before =

@@ -35,8 +35,8 @@ without_last xs = take (length xs - 1) xs
 
 -- W: the reference set, the passes and columns of a lane that the block at a place may refer to, in
 -- order. They are what is left of the pass before, the slices of this pass before the present one
--- and, in the own lane, the segment so far. In the own lane, and for the first block of a segment,
--- the last element is left out (3.4.2).
+-- and, in the own lane, the segment so far. The last element is left
+-- out in the own lane, and in each lane for the first block of a segment (3.4.2).
 unfoldable pub reference_set : Setting → Position → ℕ → List (ℕ × ℕ)
 reference_set s at lane =
     let slice = slice_of s at.column in
