@@ -301,7 +301,7 @@ measure() {
     done
 }
 
-# Says where other programs may have disturbed what was measured.
+# Warns if other programs may have disturbed the measurement.
 tell_of_load() {
     processors=$(getconf _NPROCESSORS_ONLN) && { read -r load _ <"$loads"; } 2>/dev/null || return 0
     [ "${load%%.*}" -lt "$processors" ] || add "tune: the load is $load on $processors processors: without other \
@@ -339,7 +339,7 @@ find_memory() {
     [ "$took" -gt "$1" ] || return 0
     progress ''
     tell_of_load
-    fail 1 "tune: no settings for passwords within $2 KiB take $1 milliseconds here"
+    fail 1 "tune: no settings for passwords within $2 KiB take at most $1 milliseconds here"
 }
 
 # Raises `passes`, whose hash took `took`, as long as the hash takes at most MILLISECONDS and `check` accepts it:

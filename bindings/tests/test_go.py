@@ -53,7 +53,7 @@ int pthread_create(pthread_t *thread, const pthread_attr_t *attributes, void *(*
     return create(thread, attributes, start, argument);
 }
 """
-# Makes each call with a password that no other copy is of, and waits.
+# Makes each call with a password of which there is no other copy, and waits.
 SECRETIVE = """package main
 
 import (

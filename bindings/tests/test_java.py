@@ -172,7 +172,7 @@ def test_its_own_tests_pass_on_arm64(classes, drawn, tmp_path):
 
 
 def test_each_public_member_is_documented(tmp_path):
-    """(one of a few words needs no tag for each argument)"""
+    """(a comment of a few words needs no tag for each argument)"""
     done = start("javadoc", "-quiet", "-Xdoclint:all", "-d", tmp_path, *JAVA.rglob("src/**/*.java"))
     found = [line for line in done.stderr.splitlines() if re.search("(warning|error): ", line)]
     assert done.returncode == 0 and not [line for line in found if not re.search("warning: no @(param|return)", line)]

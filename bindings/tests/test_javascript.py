@@ -12,7 +12,7 @@ from running import CC, MACHINE, TOP, first_lines, has_node, needs, run, start
 HEADERS, SOURCES = TOP / "bindings/c/include", TOP / "bindings/javascript"
 NODE_API = Path("/usr/include/node/node_api.h")
 pytestmark = [has_node(), pytest.mark.timeout(2400)]
-# Those of what both engines do, and those of the package alone.
+# The test files for what both engines do, and all those of the package itself.
 BOTH = "vectors", "errors", "inputs", "services", "secrets", "line"
 OWN = *BOTH, "running", "flat"
 WEBASSEMBLY = {"PROVED_ARGON2_NATIVE": 0}

@@ -17,7 +17,7 @@ CC = *"gcc -std=gnu11 -O1 -Wall -Wextra -Werror -I".split(), HERE, "-I", FACE / 
 FUZZ, SANITIZE = ("/usr/bin/python3", "-B", TESTS / "fuzz.py"), "-g -fsanitize=address,undefined -fno-sanitize-recover"
 HEADERS = "gcc -std=c99 -x c", "g++ -std=c++98 -x c++", "clang -std=c17 -x c -Weverything"
 KINDS = "threads", "memory"
-# A program that links the archive, and the library's own beside it, and says what an older processor gets, which is a
+# A program that links both archives, the replacement's and the library's, and prints what an older processor gets: a
 # code that libargon2 does not have.
 BOTH = """#include <argon2.h>
 #include <proved_argon2.h>

@@ -1,5 +1,5 @@
-"""Makes the packages, here and elsewhere as another user, and inspects each. With each alone, without the kit and this
-repository, the first lines of the pages run (debian/tests), and its removal leaves nothing. Fresh systems of other
+"""Makes the packages, here and elsewhere as another user, and inspects each. With each alone, without the toolchain and
+this repository, the first lines of the pages run (debian/tests), and its removal leaves nothing. Fresh systems of other
 years install, and switch to the replacement of libargon2 and back."""
 
 import os
@@ -290,8 +290,8 @@ def test_each_package_works_alone_and_leaves_nothing_when_removed(with_pages, tm
 THERE = '''mount --rbind /dev "$1/dev" && mount -t proc proc "$1/proc"
 exec chroot "$1" env -i PATH=/usr/local/bin:/usr/sbin:/usr/bin:/sbin:/bin bash -Eeuo pipefail -c "$2"'''
 # Installs packages, or takes them back to Debian's; PHP then calls the library of PACKAGE, and OTHERS are there:
-# `swaps 'PACKAGES' PACKAGE OTHER..`. The development files stay with either library, and ours take their place if both
-# files are named.
+# `swaps 'PACKAGES' PACKAGE OTHER..`. The development files stay with either library; ours replace Debian's if
+# both our packages are named.
 SWAPS = '''export DEBIAN_FRONTEND=noninteractive; cd /packages
 trap 'echo "status $?: $BASH_COMMAND" >&2' ERR
 installs() { apt-get install -qq -y "$@" >/dev/null; }

@@ -77,7 +77,7 @@ def test_the_loader_is_told_of_usr_local(folder):
 
 @pytest.mark.parametrize("mask", ["000", "022", "077"])
 def test_what_is_installed_has_its_modes_under_each_umask(folder, mask):
-    """With the umask of a careful root, a careless one, and a group."""
+    """With a careless umask, the usual one, and that of a careful root."""
     prefix = folder / f"mask/{mask}"
     run("sh", "-c", 'umask "$0" && exec ./install "$1"', mask, prefix)
     for path in [prefix, *prefix.rglob("*")]:
@@ -103,7 +103,7 @@ def test_a_link_in_the_place_of_a_new_file_is_not_followed(folder):
 @pytest.mark.parametrize("said", ["echo glibc 2.31", "echo glibc 2.5", "echo glibc 2.33", "echo undefined; exit 1",
                                   "exit 127", f"echo glibc {OLDEST}", "echo glibc 2.100"])
 def test_an_older_c_library_and_another_one_are_refused_by_one_line(folder, said):
-    """The system names the library. Packages are made anyway."""
+    """A stand-in for getconf names the C library. Packages are made anyway."""
     (folder / "getconf").write_text(f"#!/bin/sh\n{said}\n")
     (folder / "getconf").chmod(0o755)
     named = {"PATH": f"{folder}:{os.environ['PATH']}"}

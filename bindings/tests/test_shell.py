@@ -303,7 +303,7 @@ echo $(($(cat "$FOLDER/clock") + {cost} / 1024 - 1)) >"$FOLDER/clock"
     if found:
         assert (status, output, errors) == (0, "argon2id 19 {1} {0} 1 32 seq\n".format(*found).encode(), b"")
     else:
-        said = f"no settings for passwords within {kib} KiB take {milliseconds} milliseconds here"
+        said = f"no settings for passwords within {kib} KiB take at most {milliseconds} milliseconds here"
         assert (status, output) == (1, b"") and said.encode() in errors
 
 

@@ -114,7 +114,7 @@ export class Places {
 const NAMES_OF_LINE = new Set([...Object.keys(DEFAULTS), 'concurrency', 'waiting']);
 const WAITING_FOR_EACH = 16;
 
-/** How many hashes fit into the processors, with one lane each, and into a quarter of the memory; at least one. */
+/** How many hashes can run within a quarter of the memory, with a processor for each lane; at least one. */
 function fittingIn({ memoryCost, parallelism }) {
     const byProcessors = processors() / Math.max(1, parallelism);
     return Math.max(1, Math.floor(Math.min(byProcessors, memoryOfSystem() / (4 * 1024 * Math.max(8, memoryCost)))));

@@ -29,7 +29,7 @@ export async function fittingCosts(milliseconds, memoryCost, measure) {
             return withPasses(milliseconds, { memory, passes, took }, measure);
         }
     }
-    throw new RangeError(`no settings for passwords within ${memoryCost} KiB take ${milliseconds} milliseconds here`);
+    throw new RangeError(`no settings for passwords within ${memoryCost} KiB take at most ${milliseconds} milliseconds here`);
 }
 
 /** Raises the passes as far as the time allows. */

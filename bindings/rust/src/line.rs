@@ -27,8 +27,8 @@ const IDLE: Duration = Duration::from_secs(10);
 /// # Ok::<(), Box<dyn std::error::Error>>(())
 /// ```
 ///
-/// In async code the place has to move into the closure that computes. A request whose client leaves is dropped, but
-/// its hash goes on: only a place in the closure is held until the hash is complete.
+/// In async code, move the place into the closure that computes. If a client leaves, its request is dropped, but the
+/// hash goes on: a place in the closure is held until it is complete.
 ///
 /// ```text
 /// let mut place = line.enter().await?;
@@ -108,8 +108,8 @@ impl Line {
         Line::keeping(places, waiting, IDLE)
     }
 
-    /// A line with one place for each hash with these settings that fits into the processors (one per lane) and into
-    /// this many bytes of memory. 16 times as many callers may wait.
+    /// A line with a place for each hash with these settings that can run within this many bytes of memory, with one
+    /// processor per lane; at least one. 16 times as many callers may wait.
     #[must_use]
     pub fn of(config: &Config<'_>, memory: usize) -> Line {
         let processors = thread::available_parallelism().map_or(1, usize::from);
@@ -164,7 +164,7 @@ impl State {
         State { process: process::id(), free, next_ticket: 0, queue, kept, is_watched: false }
     }
 
-    /// Takes the buffers that have been idle for this long, and says in what time the next one has.
+    /// Takes the buffers that have been idle for this long, and returns the time until the next one has been.
     fn take_idle(&mut self, idle: Duration) -> (Vec<(Memory, Instant)>, Option<Duration>) {
         let age = |since: &Instant| since.elapsed();
         let count = self.kept.iter().take_while(|(_, since)| age(since) >= idle).count();

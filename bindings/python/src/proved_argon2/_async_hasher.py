@@ -14,7 +14,7 @@ _LEAST_KIB = 8  # of a hash
 
 
 def _default_concurrency(hasher: PasswordHasher) -> int:
-    """How many hashes fit into the processors, with a lane each, and into a quarter of the memory; at least one."""
+    """How many hashes can run within a quarter of the memory, with a processor for each lane; at least one."""
     by_processors = processors() // max(1, hasher.parallelism)
     by_memory = memory() // (4 * 1024 * max(_LEAST_KIB, hasher.memory_cost))
     return max(1, min(by_processors, by_memory))
