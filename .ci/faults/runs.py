@@ -77,7 +77,7 @@ def run(words, is_over_faults=True, meanwhile=lambda process: None, input_bytes=
 
 
 class Hash(NamedTuple):
-    """A hash by the program, with a worker for each lane (None), at most `most`, or none (0)."""
+    """A hash by the program. `most` limits its workers: None allows one for each lane, and 0 allows none."""
     variant: str
     version: int
     passes: int

@@ -25,8 +25,8 @@ def hashing(passes, memory, lanes, *count, **how):
 
 
 def met(words, output, count=1, space=resource.RLIM_INFINITY, threads=None, **variables):
-    """Counts each end and each note in runs within this address space or, by a user, this many threads; the rows of
-    tries in which starts were denied (`again`); and the peak of resident KiB."""
+    """Runs the words within this address space or, as a user of its own, this many threads. Counts each end, each note
+    and each series of denied starts (`again`), and takes the peak of resident KiB."""
     assert not os.geteuid(), 'root alone can limit the threads of a user of its own'
     limit, most = (resource.RLIMIT_NPROC, threads) if threads else (resource.RLIMIT_AS, space)
     own = {'user': USER, 'group': USER, 'extra_groups': []} if threads else {}

@@ -102,8 +102,8 @@ def test_each_run_has_the_expected_status_and_output(name, words, how, expected)
 @pytest.mark.parametrize('name', BINARIES)
 @pytest.mark.parametrize('size', (*range(8, 250), 333, 500, 750, 1000, 4096, 65536))
 def test_words_of_each_length_are_used_completely(name, size):
-    """A shortened salt, encoded hash or password would change the output. The lengths of salt and tag make each length
-    of an encoded hash."""
+    """A shortened salt, encoded hash or password would change the output. With two lengths of tags, the encoded
+    hashes have each length."""
     for length in (16, 17):
         letters = bytes(48 + at % 75 for at in range(size))
         one = Hash('argon2i', 19, 1, 8, 1, length, 0, letters, letters[::-1])

@@ -56,7 +56,7 @@ def stop(process):
 
 
 # Each kind: what goes wrong; whether a run met it, by its notes or what else is seen; and how many percent of the runs
-# have to meet it. That is 50 if a start or request is drawn among more than there may be, or the workers may have ended
+# have to meet it. That is 50 if the drawn start or request may never happen in a run, or the workers may have ended
 # before a stop.
 KINDS = {
     'plain': (lambda *_: {}, lambda came, starts: came.met['start'] == starts, 100),

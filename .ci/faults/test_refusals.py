@@ -79,7 +79,8 @@ LABELS = {label: holds for patterns, *holds in (
     ('verify_encoded_{ext,within}', 4 * 3 * 4, lambda of: of.own == of.hash_raw_by_workers_argon2d + of.decode_string),
     ('verify_encoded_{sequential,within_sequential}', 0, lambda of: of.own == of.finalize + of.decode_string),
     # Two calls with one memory. The second allocates all but the memory. For another shape, the old memory is freed
-    # first, and the new one is held beside a tag; each also requests room for all of it, and frees that at once.
+    # first, and the new one is held beside a tag. Before a memory is allocated, room for all of it is requested once,
+    # and freed.
     ('{hash,verify}_raw_in_twice', 2 * 4 * 3 * 4, lambda of: of.own == 2 * of.verify_raw_by_workers - of.memory_new),
     ('{hash,verify}_raw_in_sequential_twice', 0, lambda of: of.own == of.finalize + 1),
     ('hash_encoded_in_twice', 2 * 4 * 3 * 4, lambda of: of.own == 2 * of.hash_encoded_by_workers - of.memory_new),
@@ -95,8 +96,8 @@ LABELS = {label: holds for patterns, *holds in (
     ('head_faults a_text_within_limits_is_judged a_costly_text_of_any_length_allocates_nothing '
      '{hashing,verifying_a_tag,verifying_an_empty_tag}_allocates_nothing '
      '{an_unspelled,a_refused,a_costly}_text_allocates_nothing', 0, lambda of: of.own == 0),
-    # Runs of the program, of 2 passes. An invalid encoded hash and one above the limits allocate as much, and start
-    # nothing.
+    # Runs of the program, of 2 passes. An invalid encoded hash and one above the limits start nothing, and request
+    # memory about equally often.
     ('program_hash_by_workers', 4 * 2 * 2, lambda of: of.own > of.program_hash_in_one_thread + 16),
     ('program_{hash_in_one_thread,verify_in_one_thread,verify_of_another,rehash}', 0, lambda of: of.own > 0),
     ('program_no_rehash', 0, lambda of: of.own == of.program_rehash),

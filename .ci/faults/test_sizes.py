@@ -22,8 +22,8 @@ ABOUT = Path('/proc/meminfo').read_text(encoding='utf-8')
 MOST_MEMORY = min(512 << 10, int(re.search(r'^MemAvailable: +(\d+) kB$', ABOUT, re.M)[1]) // 4)
 MOST_COUNTED, MOST_OF_MODES = 24 << 10, 6 << 10  # KiB
 MOST_LANES, MOST_PASSES, MOST_TAG, MOST_FOR_A_TEXT = 300, 6, 90_000, 16
-# A hash with segments of more than 2^16 blocks, whose addresses are made anew for each 128 blocks as in smaller ones,
-# and one of several lanes with more memory than the drawn ones that are counted.
+# A hash with segments of more than 2^16 blocks: there too, Argon2i makes addresses for 128 blocks at a time. And a
+# hash of several lanes with more memory than the drawn ones whose blocks are counted.
 LARGE = Hash('argon2i', 19, 1, SLICES * (1 << 16) + 4 * SLICES, 1, 32), Hash('argon2d', 19, 1, 96 << 10, 3, 32)
 # The function that compresses a block, and how many references an address block contains.
 COMPRESSION, DRAWN_AT_ONCE = 'argon2_blocks::block::kernel::fill_words', 128
@@ -55,8 +55,8 @@ def each(hashes):
 
 
 def blocks(settings):
-    """How many blocks are compressed: those of the matrix, in each pass, except for the first two of each lane; and two
-    for each 128 references that depend on no block, in each segment with blocks other than those two."""
+    """How many blocks are compressed: the matrix in each pass, except in the first pass the first two of each lane; and
+    two for each 128 references that depend on no block, in each segment that has other blocks than those two."""
     length = settings.memory // (SLICES * settings.lanes)
     slices = {'argon2d': 0, 'argon2id': 2, 'argon2i': SLICES * settings.passes}[settings.variant]
     slices -= slices > 0 and length == 2
@@ -85,7 +85,7 @@ def growths(settings):
 
 @each(HASHES)
 def test_a_hash_starts_and_allocates_as_with_less_memory(settings):
-    """It starts and allocates as with less memory, and its encoded hash verifies."""
+    """It starts the workers of its settings, allocates as with less memory, and its encoded hash verifies."""
     program, least = copy_of('argon2_program'), settings._replace(memory=8 * settings.lanes)
     came, other = (run([program, *of.words()]) for of in (settings, least))
     verified = run([program, 'verify', settings.text()])

@@ -108,7 +108,7 @@ def lack_a_stack(file, content):
 
 @by_changes
 def add_code_that_is_not_read(file, content):
-    """In a segment that can be executed alone, in the place of a note."""
+    """In a segment that can be executed and not read, in the place of a note."""
     end = -(-len(content) // 0x1000) * 0x1000
     yield header_of(content, 4)[0], struct.pack('<IIQQQQQQ', 1, 1, end, end + 0x10000, end + 0x10000, 64, 64, 0x1000)
     yield len(content), bytes(end - len(content)) + RETURNS_0 + bytes(61)
@@ -166,14 +166,15 @@ def lead_into_an_instruction(file, content):
 
 @by_changes
 def relocate_by_the_size_of_a_symbol(file, content):
-    """In place of a distance (an addend of -4), and with a symbol that only some programs may have."""
+    """Turns the last relocation by a distance (its addend is -4) into one by the symbol's size (R_X86_64_SIZE32)."""
     *_, last = re.finditer(rb'\x02\0\0\0(?=....\xfc\xff{7})', content, re.S)
     yield last.start(), b'\x20'
 
 
 @by_changes
 def relocate_an_instruction(file, content):
-    """A linker also writes the byte in front of a distance: the right one if constants are as far away as here."""
+    """A linker also writes the byte in front of a distance. That byte is right only if constants are as far away as
+    here."""
     first, code = content.index(b'\x7fELF'), code_of(file)
     elf = ELFFile(io.BytesIO(content[first:]))
     table = next(section for section in elf.iter_sections('SHT_RELA') if section.name.endswith('::fill_words'))

@@ -121,9 +121,9 @@ class Machine:
         wrong = [at for at, word in enumerate(words) if self.word_at(self.written, WORD * at) != word]
         changed = [name for name in (*self.saved, self.stack_pointer) if self.registers[name] != self.before[name]]
         zeros = sum(region == 'stack' and word == 0 for (region, _), word in self.memory.items())
-        return (f'{len(wrong)} of {len(words)} words are other ones' if wrong else
+        return (f'{len(wrong)} of {len(words)} words are wrong' if wrong else
                 f'it clears {zeros} words of its frame, of {cleared}' if zeros < cleared else
-                f'it leaves another {", ".join(changed)}' if changed else None)
+                f'it does not restore {", ".join(changed)}' if changed else None)
 
 
 def parts(text):
@@ -159,7 +159,7 @@ def jump_if(condition, to):
 
 
 def each(function):
-    """A function for all words of its operands, or with the same number for all of the first one's."""
+    """Applies a function to each pair of words of two operands, or to each word of the first and one number."""
     def done(words, other):
         return tuple(function(*pair) for pair in zip(
             words, other if isinstance(other, tuple) else (other,) * len(words)))

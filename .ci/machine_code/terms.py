@@ -13,9 +13,9 @@ class Fault(Exception):
 
 
 class Term:
-    """A word that is no number. Each form has one object, which `make` returns. Its parts are: of a `variable` its
-    name; of a `sum` and of an exclusive or (`xor`) a number and the other terms, in a sum with their factors; of a
-    `product` its factors; of `bits` pieces of other words, from the lowest on: (word, first bit, number of bits)."""
+    """A word that is no number. Each form has one object, which `make` returns. Parts of a `variable`: its name. Of a
+    `sum` or an exclusive or (`xor`): a number and the other terms, in a sum with their factors. Of a `product`: its
+    factors. Of `bits`: pieces of other words, from the lowest on, as (word, first bit, number of bits)."""
     __slots__ = 'kind', 'parts'
 
     def __init__(self, kind, *parts):
@@ -169,7 +169,8 @@ def merged(one, other):
 
 
 def picked(words, places, width):
-    """The words made of elements of other words, each of so many bits, by their places. Behind the words are zeros."""
+    """The words that consist of the elements at these places of other words. An element has `width` bits. Behind the
+    words are zeros."""
     per, words = BITS // width, (*words, 0)
     parts = [cut(words[min(at // per, len(words) - 1)], at % per * width, width) for at in places]
     return tuple(joined(*chain(*parts[at:at + per])) for at in range(0, len(parts), per))

@@ -63,7 +63,7 @@ class Module:
         raise Fault(f'it reads at {address:#x}')
 
     def traps(self, address):
-        """Whether nothing but a trap is where a jump leads."""
+        """Whether a jump leads to nothing but a trap."""
         text, size, _ = self.instructions[address]
         return self.traps(address + size) if text == 'end' else text == 'unreachable'
 

@@ -141,7 +141,7 @@ def check(root):
     standard = {*TOP.glob('crates/*/specs/Standard/*.antt')}
     bare = [f'{name} in {file}' for file in standard for name in BARE.findall(read(file))]
     others = standard ^ root.own
-    require(not others, f'root calls rest on these outside of folders Standard, or not on these in them: {others}')
+    require(not others, f'these are in folders Standard and unused by root calls, or used and elsewhere: {others}')
     require(not bare, f'definitions without a comment: {bare}')
 
 

@@ -117,7 +117,7 @@ def errors():
 
 
 def errors_for_go(every):
-    """The same by an error that Go's calls return, in columns."""
+    """The same for each error that Go's calls return, padded for columns."""
     found = [error for error in every if int(error['n']) < 64 or error['name'] in OTHERS_OF_GO]
     wide = max(len(error['Name']) for error in found)
     return [{**error, 'padded': error['Name'].ljust(wide), 'gap': ' ' * (3 - len(error['n']))} for error in found]

@@ -21,7 +21,7 @@ from common import HOW_TO_CHANGE, PROMISES, TOP, files, read, run
 WORDS = 30_000
 ENDINGS = {'.rt', '.antt', '.md', '.txt', '.py', '.rs', '.c', '.h', '.sh', '.edit', '.svg', '.toml', '.in'}
 FILES = files()
-# The pages, and lists whose words are those of pages, by hand.
+# The pages, and handwritten lists that follow the same rules.
 PAGES = [*(file for file in FILES if file.endswith('.md')), PROMISES, 'docs/promises-open.txt']
 PATHS = {f'/{path}' for file in FILES for path in (file, *map(str, Path(file).parents))}
 # Names of things elsewhere: in upstream's source, in rust-argon2, in the toolchain, or where it is installed.
@@ -122,7 +122,7 @@ def faults(page, text, is_code):
 
 
 def faults_of(page, text):
-    """Those of the paragraphs of a page, and of the lines of its code for a shell. Other code is left out."""
+    """The faults of a page's paragraphs, and of the lines of its code for a shell. Other code is left out."""
     for language, fenced, apart, paragraph in BLOCK.findall(text):
         code = apart or fenced * (language == 'sh')
         for part in [paragraph, *code.splitlines()]:

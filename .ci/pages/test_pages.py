@@ -19,9 +19,9 @@ PROMISED = {'argon2_blocks', 'argon2_standard', 'argon2_memory', 'argon2_fill', 
 # Unexpected forms of the code, which the page of decisions has to name.
 FORMS = (
     '`Memory::wipe` and `prepare_memory` write blocks too', 'computes the hash once for both lines',
-    'does not read its input behind the byte', '`run` is in `argon2_commands`', '`./argon2` writes lines of its own',
+    'stops reading its input as soon as', '`run` is in `argon2_commands`', '`./argon2` writes lines of its own',
     '`encode_slice`', '`itoa`', '`arrayvec`', '`hex` also decodes', '`anyhow`',
-    'Tests deny memory in calls with four lanes', 'A test of the gate fills three passes')
+    'Tests deny memory in calls with four lanes', "A test of the workers' `Gate` fills three passes")
 
 
 def test_generated_parts_are_current(tmp_path):
@@ -63,7 +63,7 @@ def test_the_oldest_c_library_is_the_newest_that_release_asks_for(page):
 
 
 def test_each_layer_of_the_picture_names_the_calls_or_files_behind_it():
-    """Each word: a call of this way in proves it, or a file checks or tests it."""
+    """Each word of the picture: a call of this way in proves it, or a file checks or tests it."""
     picture, there = read('docs/what-is-proved.svg'), {*files(), *(path for path, *_ in rows(TOP / PROMISES))}
     ways = {int(x) - 27: begun.split() for begun, x in WAY.findall(picture)}
     layers = [(shown.split(), re.findall(r'#(\w+)" x="(\d+)"', words)) for shown, words in LAYER.findall(picture)]

@@ -1,6 +1,6 @@
 """Compares release/ with what is built here from these sources (build/release), and verifies strings by its programs.
-In a copy of this repository, without the kit, it hashes and installs as on each processor. Changed or forged files,
-other sources and other machines have to be refused by name, without installing anything."""
+In a copy of this repository, without the toolchain, `./argon2` hashes and `./install` installs as on each processor.
+Changed or forged files, other sources and other machines have to be refused by name, without installing anything."""
 
 import hashlib
 import os
@@ -177,7 +177,7 @@ assert len(FORGERIES) == 14
 @needs_root
 @pytest.mark.parametrize('name', FORGERIES)
 def test_a_forgery_is_found(copy, tmp_path, request, name):
-    """For build/release, the copy gets what is built here, which is current there: notes hold hashes, not times."""
+    """For build/release, what is built here is copied. It is current there, since notes hold hashes, not times."""
     (plant, commands, expected), made = FORGERIES[name], tmp_path / 'made/there'
     assert commands and expected
     if COMPARE in commands:
