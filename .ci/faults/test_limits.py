@@ -54,8 +54,8 @@ def test_a_hash_needs_only_its_workers_and_the_caller(workers):
 
 
 def test_sixteen_workers_fit_into_16_mib_beside_the_matrix():
-    """Sixteen workers fit into 16 MiB beside a matrix of 64 MiB: their stacks take 4; those of all started workers
-    would take 32."""
+    """Sixteen workers fit into 16 MiB beside a matrix of 64 MiB: their stacks take 4; those of the workers of all
+    8 slices would take 32."""
     assert hashing(2, MATRIX, MANY, space=MATRIX * 1024)[NO_MEMORY] == 1
     found = hashing(2, MATRIX, MANY, **LITTLE)
     assert (found[VALUE], found['start']) == (1, 2 * SLICES * MANY) and found['peak'] >= MATRIX

@@ -133,8 +133,7 @@ class Code:
 
     def calls(self, begin):
         """How many instructions call a function. A jump behind the end of another function is no call: ld puts such a
-        jump in front of its workaround for a fault of the Cortex-A53 (843419), and no other instruction enters that
-        code at its begin."""
+        jump, which nothing reaches, in front of its workaround for a fault of the Cortex-A53 (843419)."""
         call = re.compile(rf'(?:call|jmp|bl?)\s+{begin:#x}')
         texts = [text for text, _ in self.instructions.values()]
         return sum(bool(call.fullmatch(text)) and (before, text[:2]) != ('ret', 'b\t')

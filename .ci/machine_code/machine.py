@@ -88,7 +88,7 @@ class Machine:
         """What memset does."""
         if not isinstance(size, int) or size % WORD or byte != 0:
             raise Fault('it fills memory with other than words of zero')
-        # (looked up first, since a wrong size may exceed memory)
+        # (places() first rejects a wrong size, whose zeros may exceed memory)
         self.store(address, [0] * len(self.places(address, size // WORD, WORD)))
 
     def clear_words(self):

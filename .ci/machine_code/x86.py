@@ -111,7 +111,7 @@ def by_lanes(function):
 
 
 def places(words, width, count):
-    """The elements of words that are numbers, each of them a place. LLVM goes on counting in a vector's upper half."""
+    """The elements of words that are numbers: each is a place. LLVM may count on from `count` in an upper half."""
     found = [word >> at & (1 << width) - 1 for word in words if isinstance(word, int) for at in range(0, BITS, width)]
     if len(found) < len(words) * BITS // width or {place // count for place in found} not in ({0}, {1}):
         raise Fault('it shuffles by other than places')
@@ -133,7 +133,7 @@ def by_fours(words, order):
 
 
 def permuted(first, second):
-    """vpermq has two forms: vector and number move words within each four, and places and vector move all words."""
+    """vpermq has two forms: (vector, number) moves words within each four, and (places, vector) moves all words."""
     if isinstance(second, int):
         return by_fours(first, second)
     return picked(second, places(first, BITS, len(second)), BITS)

@@ -176,7 +176,7 @@ def with_values(text, form, values):
 
 def write_place(file, what, items, mark, form):
     """Writes a list's items to a place, or checks that they are there."""
-    require(items and len({put_in(item, form) for item in items}) == len(items), f'{file}, {what}: two have one text')
+    require(items and len({put_in(item, form) for item in items}) == len(items), f'{file}, {what}: none, or two alike')
     text = read(file)
     if mark == '=':
         text, count = with_values(text, form, items[0])

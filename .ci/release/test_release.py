@@ -1,5 +1,6 @@
 """Compares release/ with what is built here from these sources (build/release), and verifies strings by its programs.
-In a copy of this repository, without the toolchain, `./argon2` hashes and `./install` installs as on each processor.
+In a copy of this repository, without the toolchain, `./argon2` and an installed program use the right build for each
+processor.
 Changed or forged files, other sources and other machines have to be refused by name, without installing anything."""
 
 import hashlib
@@ -193,8 +194,8 @@ def test_a_forgery_is_found(copy, tmp_path, request, name):
     assert not (tmp_path / 'made').exists()
 
 
-# Stand-ins: other versions are installed here than the list names, and a root with the listed ones links what release/
-# has.
+# Stand-ins: the versions installed here are not those of the list, and a chroot with the listed ones links the files
+# of release/.
 STAND_INS = {
     'dpkg-query': '/usr/bin/dpkg-query "$@" | sed "s/wabt=[^ ]*/wabt=0/"', 'debootstrap': 'mkdir -p "$4"',
     'chroot': '[ "${2##*/}" != link ] || { mkdir -p "$1/linked" && cp -R "release/$3" "$1/linked"; }'}

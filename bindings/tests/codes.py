@@ -27,7 +27,7 @@ HASH, VERIFY = (b"word", b"somesalt", *SETTINGS), (TEXT.encode(), b"word", Type.
 NAMED = {"key": b"key", "associated_data": b"data"}
 LIMITS = Limits(memory_cost=10, time_cost=11, parallelism=12, work=13)
 STORED = Parameters(type=Type.ID, version=19, memory_cost=64, time_cost=3, parallelism=4, hash_len=5, salt_len=6)
-# The values of the table. Exceptions instead of verdicts contain the number.
+# The values of the table. Other verdicts than `true` are exceptions that contain the number.
 VALUES = {"tag": b"x" * 5, "text": b"x" * 12, "true": True, "false": errors.VerifyMismatchError,
           "costly": errors.TooCostlyError, "stored": STORED}
 VERDICTS = {0: True, HEADER["MISMATCH"]: VALUES["false"], HEADER["TOO_COSTLY"]: VALUES["costly"]}

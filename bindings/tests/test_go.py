@@ -380,8 +380,8 @@ exec chroot "$1" env -i HOME=/root PATH=/usr/sbin:/usr/bin:/sbin:/bin bash -ec "
 
 
 def test_the_tests_pass_on_debian_13(module, drawn, tmp_path):
-    """Its Go has #cgo noescape and nocallback, at which `go mod vendor` of an older Go stops. The cgo check is there an
-    experiment of the compiler."""
+    """Its Go has #cgo noescape and nocallback, at which `go mod vendor` of an older Go stops. There, the cgo check is
+    an experiment of the compiler."""
     system = tmp_path / "system"
     made = start("mmdebstrap", "--quiet", "--variant=minbase", "--include=golang-go,gcc,libc6-dev", "trixie", system,
                  run("bash", "-c", ". bindings/tests/fetching.bash; mirror_of debian").strip()) if (

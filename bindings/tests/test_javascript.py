@@ -1,4 +1,5 @@
-"""The package for npm: its own tests in Node, also that of another Debian release, and beside other implementations."""
+"""The package for npm: its own tests, some with other implementations' hashes, here and in another Debian
+release's Node."""
 import json
 import re
 import shutil

@@ -42,7 +42,7 @@ def write_program(file, text):
 
 
 class Tree:
-    """The sources that the script reads, one word each, and only the toolchain's name."""
+    """The sources that the script reads, one word each, and of the toolchain only its name."""
 
     def __init__(self, folder):
         self.folder, self.runs = folder, folder / "runs"

@@ -127,7 +127,7 @@ def test_released_files_are_packed_byte_for_byte(unpacked, machine, file, count)
 
 
 def words(text):
-    """The words of both licences, without how they are set: what stands behind the titles."""
+    """The words of both licences behind their titles, whatever their layout."""
     return [word for line in re.split(r'(?m)^(?:=== MIT|License: MIT$)', text, 1)[1].splitlines()[1:]
             if not re.match('===|License:', line) for word in re.split('[ .]+', line) if word]
 

@@ -271,7 +271,7 @@ def test_the_tests_of_rust_argon2_pass(cargo, tmp_path):
 
 def test_the_page_has_the_arguments_of_the_calls():
     """In order. The calls in a buffer share a row: each takes the buffer first, and then the arguments of the call
-    without `_in`, with a secret."""
+    without `_in`, or with `_ext` if there is one."""
     same = {"text": "encoded", "mem": "mem_cost", "time": "time_cost", "lanes": "parallelism"}
     code = "".join(file.read_text() for file in CRATE.glob("src/*.rs") if file.name != "ffi.rs")
     calls = re.findall(r"^pub fn (\w+)(?:<'\w+>)?\(([^)]*)\)", code, re.M)

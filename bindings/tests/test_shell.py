@@ -60,7 +60,7 @@ def test_words_are_passed_on_as_they_are(words, password):
     theirs = piped(words, password, command=[TOOL])
     if words[:1] != ["new"]:
         assert piped(words, password) == theirs
-    else:  # (which has a salt more)
+    else:  # (the tool's `new` also takes a salt)
         status, output, errors = piped(words, password)
         assert (status, output) == (3, b"") and errors.startswith(b"usage\nnew takes VARIANT")
 
@@ -150,7 +150,7 @@ def test_new_prints_a_hash_with_owasp_s_settings_and_a_random_salt():
         assert re.fullmatch(rb"\$argon2id\$v=19\$m=19456,t=2,p=1\$\S{22}\$\S{43}\n", output)
         assert verifies(output.decode(), b"password") and not verifies(output.decode(), b"password\n")
     salts = [salt_of(output) for _, output, _ in texts]
-    # of 32 random bytes no two in a hundred thousand such pairs are all text
+    # 32 random bytes are all below 128 only once in 2^32 times
     assert salts[0] != salts[1] and max(b"".join(salts)) > 127
     script = """if True:
         import sys
@@ -291,7 +291,7 @@ def test_tune_warns_if_the_machine_was_busy(run_script, limits, load, is_busy):
 
 @pytest.mark.parametrize("row", TUNINGS, ids=" ".join)
 def test_tune_finds_what_the_table_says(run_script, limits, tmp_path, row):
-    """Each hash advances the clock by a nanosecond less than rounds up."""
+    """Each hash advances the clock by its cost minus a nanosecond: `tune` rounds whole milliseconds up."""
     milliseconds, kib, power, *found = row
     (tmp_path / "clock").write_text("1700000000000000000")
     cost = " * ".join(["3000000 * $5", *["$4"] * int(power)])
@@ -409,7 +409,7 @@ def test_new_asks_twice_without_echo(password):
     ((b"one\n", b"two\n"), 1, b"not the same"), ((b"\n", b"\n"), 2, b"empty"), ((b"\x04",), 4, b"no password"),
     ((b"a" * 4095 + b"\n",), 4, b"too long"), ((b"a" * 6000 + b"\n",), 4, b"too long"),
     ((b"half\x03",), -signal.SIGINT, b"")], ids=lambda value: f"{value!r:.20}")
-def test_new_prints_no_text_of_what_is_not_typed_as_it_has_to_be(typed, status, said):
+def test_new_prints_no_hash_if_the_typed_password_is_rejected(typed, status, said):
     run = Terminal(["new", *SMALL], *typed)
     assert run.end == (status, b"") and said in run.shown
 

@@ -198,7 +198,7 @@ static bool is_in(uint64_t step)
     return current == 0 ? is_in_step() && step == model.step : step + 1 == model.entered[current];
 }
 
-/* Makes the moves of all workers that are in a step, or of all that are not, as far as the driver has. */
+/* Makes the moves that the driver has made for all workers that are in a step, or for all that are not. */
 static void move_workers(bool are_in_step)
 {
     for (uint32_t i = 0; i < model.call->tasks; i++) {
@@ -233,8 +233,8 @@ static bool are_codes_zero(void)
     return are_zero;
 }
 
-/* Whether the caller's thread may take no further step: after the last one, after a whole one, or after a pool's, which
- * runs no task any more. */
+/* Whether the caller's thread may stop: after the last step, after a whole step, or once a pool runs no task any
+ * more. */
 static bool can_stop(void)
 {
     bool is_idle = asked.has_pool;
@@ -268,7 +268,7 @@ static void look_at_moves(void)
     }
 }
 
-/* Goes on with this thread or, where it cannot, and as often as SWITCHES says, with another. */
+/* Goes on with this thread, or with another: if this one cannot, and also as often as SWITCHES says. */
 static void go_on(void)
 {
     uint32_t ready[MOST_THREADS], count = 0;
@@ -624,8 +624,8 @@ static int tell(void *arg, uint64_t done, uint64_t all)
     return 0;
 }
 
-/* Runs the tasks in rising or in falling order. Or it is wrong: one of them is left out, run twice or not there, or it
- * refuses behind them. */
+/* Runs the tasks in rising or in falling order. Or it is wrong: it leaves one out, runs one twice, runs one that is
+ * not there, or refuses after running all. */
 static int run_tasks(void *pool, uint32_t tasks, void (*task)(void *arg, uint32_t i), void *arg)
 {
     enum { FALLING = 1, LEAVES_OUT, REPEATS, EXCEEDS, REFUSES, WAYS };

@@ -26,7 +26,7 @@ SWITCHES = {(1, 1): 0, (1, 2): 0, (2, 1): 2, (2, 2): 2, (3, 1): 2, (3, 2): 1}
 RUNS = {(1, 1): (4652, 73836), (1, 2): (4652, 73836), (1, 3): (4652, 73836),
         (2, 1): (5684, 90260), (2, 2): (81184, 521800), (2, 3): (81184, 135152),
         (3, 1): (6716, 106684), (3, 2): (137172, 877380), (3, 3): (1130424, 298356)}
-# Each by its name, with what it takes the place of; the lines of a piece stand apart by @.
+# By each fault's name: a piece of the driver, and what takes its place. @ separates the lines of a piece.
 FAULTS = {name: [piece.replace('@', '\n') for piece in pieces] for name, *pieces in rows(HERE / 'faults.txt')}
 assert len(FAULTS) == 45
 

@@ -88,8 +88,9 @@ class Question(NamedTuple):
         return self.vector.references() if self.code != DECODING_FAIL else 0
 
     def is_right(self, came, reads):
-        """A verdict is hidden, but not that a string is no encoded hash. Every bit of a tag is hidden, or of an encoded
-        hash at least one bit of each letter of its tag, and nothing else. Each reference is read at `reads` places."""
+        """A verdict is hidden, but not that a string is no encoded hash. Of a tag, every bit is hidden; of
+        an encoded hash, at least one bit of each letter of its tag; and nothing else. Each reference is read at `reads`
+        places."""
         is_read = self.code != DECODING_FAIL
         calls_back = is_read and self.options in (PROGRESS, CALLER)
         expected = (self.branches + reads * self.references(), calls_back, self.code, is_read and self.verified != b'')

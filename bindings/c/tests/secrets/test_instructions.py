@@ -49,12 +49,12 @@ PRODUCT = re.compile('v?pmuludq|um(ull|lal)2?')
 # The other instructions, with how many there are: divisions by numbers of the settings. Those of a segment yield the
 # lane that a block selects, which the next reference's address reveals anyhow.
 DIVIDING = {'accepted_context': 1, 'proved_argon2_memory_len': 1, 'fill_caller_segment': 3}
-# What the calls of a build begin with, in the archive that has both.
+# How the names of a build's calls begin in the archive, which has all builds.
 OF_BUILD = re.compile(r'^proved_(?:x86_64_v\d|armv8_a(?:_neon)?)_')
-# Secrets, which are the password and the key; for the calls that verify they say how each byte of a hash differs.
+# Secrets: for calls that hash, the password and the key; for calls that verify, the bits in which a hash is wrong.
 CALLED = {'hash': of.HASH_RAW, 'hash_text': of.HASH_ENCODED, 'verify': of.VERIFY_RAW, 'verify_text': of.VERIFY_ENCODED}
 SECRETS = [*map(bytes.fromhex, ('00' * 16, '01' + '00' * 15, '00' * 15 + '01', '01344e2158181b481f675203450d1a71'))]
-# Rattle's calls; lengths of tags, of a hash in one piece and of a chain whose bytes fill no vector.
+# Rattle's calls; the lengths of two tags: one hash, and a chain of hashes whose length is no multiple of a vector's.
 PROGRAM, LENGTHS = TOP / 'crates/argon2_vectors/out/argon2_vectors', (32, 103)
 HASHES, VERDICTS = 'argon2::hashing::hash_raw_in*', 'argon2::verifying::verify_raw_in*'
 LONGER = b'a password that is longer than a block of BLAKE2b' * 3
@@ -105,7 +105,7 @@ def fixture_arm64(request, tmp_path_factory):
 
 
 def trace(over, call, variant, secret):
-    """A hash of the addresses of the instructions that a call over a secret takes, where its code is right."""
+    """A hash of the addresses of the instructions that a call over a secret takes. Its result code has to be right."""
     _, program, build = over
     vector = of.Vector(variant, version=19, passes=1, memory=16, lanes=2, length=16, password=bytes(16), salt=bytes(16))
     tag = bytes(one ^ other for one, other in zip(rfc9106.Setting(*vector[:-1]).tag(), secret))
@@ -143,8 +143,8 @@ def test_a_planted_branch_is_seen(arm64):
 # ---- Rattle's calls
 
 def taken_by(function, line):
-    """How many instructions the program takes in a function for a line, and what it answers. (The environment, of which
-    pytest changes a variable meanwhile, moves the stack, and what a copy takes depends on its place.)"""
+    """How many instructions the program takes in a function for a line, and what it answers. (The environment is
+    empty: pytest changes a variable meanwhile, which moves the stack, and what a copy takes depends on it.)"""
     ran = subprocess.run(
         ['valgrind', '--tool=callgrind', '--callgrind-out-file=/dev/null', f'--toggle-collect={function}', PROGRAM],
         input=f'{line}\n', capture_output=True, text=True, check=True, timeout=SECONDS, env={})

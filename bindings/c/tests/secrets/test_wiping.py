@@ -31,7 +31,7 @@ from running import rows as rows_of
 from toolchain import is_current
 
 BUILDS = machines()['x86_64'].proved
-# How long a run may take, and the numbers of search.c: bytes of a piece, and places.
+# How long a run may take, and numbers of search.c: bytes of a piece, most pieces, and most places.
 SECONDS, PIECE, PIECES, PLACES = 600, 16, 512, 1024
 # The calls, jumps and returns in machine code: the place, and the function that they lead to, without its types.
 BRANCH = re.compile(r'^ +([0-9a-f]+):\t(call|jmp|ret)(?:[^<\n]*<([^+\n]*?)(?:::<[^+\n]*)?>$)?', re.M)
@@ -47,17 +47,17 @@ MAY_BE_LEFT = ('H0', *OF_CALLER)
 # How often a program that starts threads is run: a worker that takes no lane leaves nothing, and hides what others
 # left. How often all is repeated if any count differs: what chance put into memory is not there each time.
 TRIES, LOOKS = 9, 6
-# What tests/clearing.c is linked with. Where names are bound late, the loader leaves registers on the stack, which the
-# driver alone clears there.
+# What tests/clearing.c is linked with. Where names are bound late, the loader leaves registers on the stack, and only
+# the driver clears them.
 WRAPPED = {'getrandom', *re.findall(r'__wrap_(\w+)', (FACE / 'tests/system.h').read_text(encoding='utf-8'))}
 LINKED = (FACE / 'tests/clearing.c', *(f'-Wl,--wrap={name}' for name in WRAPPED), '-Wl,-z,lazy', '-largon2')
-# What is hashed: a password that fills the last block of what H0 is the hash of, with a salt of nine bytes; and one
-# that is longer than those of other tests, since a call could end otherwise for it.
+# What is hashed: a password that fills the last block of H0's input, with a salt of nine bytes; and a password longer
+# than those of other tests, since a call could end differently for it.
 OURS = of.Vector(rfc9106.ID, 19, 2, 64, 4, 32, (b'the-password-that-is-sought,-' * 8)[:207], b'some-salt')
 LONG = OURS._replace(password=(b'the-password-that-is-sought,-' * 140)[:207 + 29 * 128])
 OF_RFC = of.Vector(rfc9106.ID, 19, 3, 32, 4, 32, b'\1' * 32, b'\2' * 16, b'\3' * 8, b'\4' * 12)
 OF_16_LANES = of.Vector(rfc9106.ID, 19, 2, 256, 16, 32, b'password', b'somesalt')
-# With a tag of a chain; and with more lanes and longer tags, of which calls.c has room for one.
+# With a tag of a chain; with more lanes and a longer tag; and with a tag for which calls.c has no room.
 OF_A_CHAIN, OF_9_LANES = OURS._replace(length=100), OURS._replace(memory=288, lanes=9, length=3000)
 OF_A_LONG_TAG = OF_9_LANES._replace(length=5000)
 DROPPED = OF_9_LANES._replace(passes=1, length=32, password=b'password')
@@ -80,7 +80,7 @@ pool = ThreadPoolExecutor(os.cpu_count())
 
 @cache
 def pieces(*vectors):
-    """What is sought of hashes, each piece once with what it is of."""
+    """What is sought of hashes: each piece once, with the name of what it belongs to."""
     return [*dict.fromkeys((what, part[at:at + PIECE])
                            for vector in vectors for what, part, places in parts(vector) for at in places)]
 
@@ -181,14 +181,14 @@ class Program:
         before = dict(self.found(runs, others, stops))
         assert not [place for place in before if place[1] == CLEAN], f'where {CLEAN} returns'
 
-        def is_missed(site):  # (by one run, behind which no other is needed)
+        def is_missed(site):  # (the first run that misses it is enough)
             return any(count > before.get(place, 0)
                        for these in tries for place, count in self.found(these, [*others, site], stops))
 
         return [*zip(sites, pool.map(is_missed, sites))]
 
     def misses(self):
-        """Each call, and whether it is missed; of the driver, by whether a check of tests/clearing.c fails."""
+        """Each call, and whether it is missed. A call of the driver is missed if a check of tests/clearing.c fails."""
         if self.runs is None:
             sites = [site for site in self.sites if not site.callee.startswith('wipe')]
             return [*zip(sites, pool.map(self.fails, sites))]
@@ -271,8 +271,8 @@ def runs_of_tests():
 
 
 def commands(hashing, salt, verifying):
-    """What the programs of the command line do: one hashes, by bytes of a salt or by its digits, and verifies; in both
-    versions, since what fills the memory is not the same. One thread frees the blocks as they are, since to overwrite
+    """What the programs of the command line do: each hashes, with the salt as bytes or in hexadecimal, and verifies; in
+    both versions, since they fill the memory differently. One thread frees the blocks as they are, since to overwrite
     them takes time."""
     for mode, version in product(('seq', 'par', 'max2'), (16, 19)):
         words, vector = [hashing, *f'argon2id {version} 2 64 4 32 {mode}'.split(), salt], LONG._replace(version=version)
@@ -282,8 +282,8 @@ def commands(hashing, salt, verifying):
     yield Run([verifying, of_zeros(vector).text().decode()], LONG.password, pieces(vector), status=1)
 
 
-# Of each program in Rattle, what it is run for, and how many of its calls are over a caller's memory, in its own
-# function or in the test.
+# Of each program in Rattle, what it is run for, and how many of its calls are over a caller's memory, without a
+# `release` in the same function.
 RATTLE = {'argon2_vectors': (rows, 0), 'argon2_tests': (runs_of_tests, 15),
           'argon2_program': (lambda: commands('hash', OURS.salt.decode(), 'verify'), 0),
           'argon2_tool': (lambda: commands('new', OURS.salt.hex(), 'check'), 0)}
@@ -295,8 +295,8 @@ def program_of(crate):
 
 def judge_program(program):
     """A program may leave only tags and what it was passed, and what it frees. Each call with a memory of its own calls
-    `release`. These calls are counted, since what follows such a call may overwrite what it alone would leave on the
-    stack."""
+    `release`. These calls are counted, since a missing one may go unnoticed: what runs next may overwrite the stack
+    that it clears."""
     counts = [[sum(bool(re.fullmatch(name, callee)) for *_, callee in places) for name in (COMPUTING, ENDING)]
               for places in program.code.values()]
     assert any(ended for _, ended in counts)
