@@ -6,7 +6,6 @@ import java.io.InputStreamReader;
 import java.nio.charset.StandardCharsets;
 import java.util.Base64;
 import java.util.HexFormat;
-import java.util.function.Supplier;
 import org.bouncycastle.crypto.generators.Argon2BytesGenerator;
 import org.bouncycastle.crypto.params.Argon2Parameters;
 
@@ -17,17 +16,13 @@ import org.bouncycastle.crypto.params.Argon2Parameters;
 final class Hashes {
     private static final byte[] PASSWORD = "password".getBytes(StandardCharsets.US_ASCII);
     private static final byte[] SALT = "somesaltsomesalt".getBytes(StandardCharsets.US_ASCII);
-    private static final int SMALL = 256;
     /** Untimed hashes, after which the code is compiled. */
-    private static final int WARM = 1000;
+    private static final int WARM = 20;
 
-    private static Supplier<byte[]> ours(int memory, int passes, int lanes) {
-        PasswordHasher hasher =
-            new PasswordHasher(Settings.owasp2().withMemory(memory).withPasses(passes).withLanes(lanes));
-        return () -> {
-            String stored = hasher.hash(PASSWORD, SALT);
-            return Base64.getDecoder().decode(stored.substring(stored.lastIndexOf('$') + 1));
-        };
+    private static byte[] ours(int memory, int passes, int lanes) {
+        Settings settings = Settings.owasp2().withMemory(memory).withPasses(passes).withLanes(lanes);
+        String stored = new PasswordHasher(settings).hash(PASSWORD, SALT);
+        return Base64.getDecoder().decode(stored.substring(stored.lastIndexOf('$') + 1));
     }
 
     private static byte[] theirs(int memory, int passes, int lanes) {
@@ -44,16 +39,18 @@ final class Hashes {
         int passes = Integer.parseInt(words[2]);
         int lanes = Integer.parseInt(words[3]);
         boolean isOurs = words[0].equals("ours");
-        Supplier<byte[]> small = isOurs ? ours(SMALL, 1, 1) : () -> theirs(SMALL, 1, 1);
         for (int round = 0; round < WARM; round++) {
-            small.get();
+            theirsOrOurs(isOurs, 1024, 2, 1);
         }
-        Supplier<byte[]> hash = isOurs ? ours(memory, passes, lanes) : () -> theirs(memory, passes, lanes);
         BufferedReader lines = new BufferedReader(new InputStreamReader(System.in, StandardCharsets.US_ASCII));
         while (lines.readLine() != null) {
             long began = System.nanoTime();
-            byte[] tag = hash.get();
+            byte[] tag = theirsOrOurs(isOurs, memory, passes, lanes);
             System.out.println(HexFormat.of().formatHex(tag) + " " + (System.nanoTime() - began) / 1e6);
         }
+    }
+
+    private static byte[] theirsOrOurs(boolean isOurs, int memory, int passes, int lanes) {
+        return isOurs ? ours(memory, passes, lanes) : theirs(memory, passes, lanes);
     }
 }

@@ -20,8 +20,8 @@
  * for its own threads or your pool and, if it makes a salt, for the system's random bytes. It reads only its arguments.
  * The first call of a process also finds out which of the library's builds the processor can run, and reads the
  * environment variable PROVED_ARGON2_CPU, with which tests choose a build. If none can run, each call that can fail
- * returns PROVED_ARGON2_OLD_PROCESSOR before it reads variant, version or encoded hash, and calls that return other
- * numbers return zeros.
+ * returns PROVED_ARGON2_OLD_PROCESSOR before it reads variant, version or encoded hash, and calls that return lengths,
+ * limits, settings or the version return zeros.
  *
  * Memory. A call that hashes or verifies allocates at most the settings' mem_cost KiB for its blocks, and memory for
  * the tag, and for the hash and the salt of an encoded hash. If the blocks need 2 MiB or more, they use huge pages if
@@ -30,9 +30,9 @@
  * compiled by GCC 11, clang 15 or newer, the vector registers.
  *
  * Threads. Calls are thread-safe, as long as nothing writes to what a call is passed: an encoded hash that changes
- * while it is read may end the process. The only state of the library is which build it runs. During a call only
- * a thread with asynchronous cancellation can be cancelled: just before the call returns or, in the proved calls of
- * proved_argon2_jobs.h, anywhere. Calls are not async-signal-safe, so make none from a signal handler. In the forked
+ * while it is read may end the process. The only state of the library is which build it runs. A call can be cancelled
+ * only if its thread's cancellation is asynchronous: a proved call of proved_argon2_jobs.h anywhere, and another call
+ * just before it returns. Calls are not async-signal-safe, so make none from a signal handler. In the forked
  * child of a process with threads, calls are safe if malloc is, as with the GNU C library.
  *
  * Symbols. Each symbol of the library begins with proved_, so that a program can link libargon2 too.
@@ -117,7 +117,7 @@ enum proved_argon2_code {
     PROVED_ARGON2_UNKNOWN_NUMBER = 67,    /* never returned; its message is used for unknown numbers */
     PROVED_ARGON2_NEEDS_REHASH = 68,      /* the encoded hash was made with other settings */
     PROVED_ARGON2_TOO_COSTLY = 69,        /* the encoded hash is above the limits */
-    PROVED_ARGON2_NO_JOB = 70,            /* no valid settings have a job with these numbers */
+    PROVED_ARGON2_NO_JOB = 70,            /* the numbers of the job belong to no valid settings */
     PROVED_ARGON2_NO_PLACE = 71,          /* the job has no such pass, slice or lane */
     PROVED_ARGON2_WRONG_BLOCKS = 72,      /* there are more or fewer blocks than the settings require */
     /* end */

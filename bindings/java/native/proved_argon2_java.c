@@ -81,7 +81,7 @@ static proved_argon2_stored settings_of(JNIEnv *env, jintArray numbers)
 }
 
 /* Stops the call if nobody waits for it any more, or if asking throws an exception, as on a full stack. */
-static int tell(void *arg, __attribute__((unused)) uint64_t done, __attribute__((unused)) uint64_t all)
+static int must_stop(void *arg, __attribute__((unused)) uint64_t done, __attribute__((unused)) uint64_t all)
 {
     const caller *const self = arg;
     const jboolean is_stopped = (*self->env)->CallBooleanMethod(self->env, self->is_stopped, get_as_boolean);
@@ -94,8 +94,8 @@ static void free_kept(jlong *kept)
     kept[0] = kept[1] = 0;
 }
 
-/* Has a hash of so much memory computed in the thread's buffer. If the buffer is too small for the thread's settings, a
- * new one takes its place. What needs more, or is denied a buffer, allocates its own memory. */
+/* Has a hash that needs so many bytes use the thread's buffer. If the buffer is too small for the hasher's settings, a
+ * new one takes its place. A hash that needs more, or is denied a buffer, allocates its own memory. */
 static void use_kept(JNIEnv *env, jlongArray array, const proved_argon2_settings *settings, uint64_t needed,
     proved_argon2_options *options)
 {
@@ -122,7 +122,7 @@ static proved_argon2_options options_of(caller *self)
 {
     proved_argon2_options options = PROVED_ARGON2_OPTIONS;
     options.threads = UINT32_MAX;
-    options.progress = tell;
+    options.progress = must_stop;
     options.arg = self;
     return options;
 }

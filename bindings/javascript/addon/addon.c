@@ -18,7 +18,7 @@ typedef struct part {
     size_t len;
 } part;
 
-/* What JavaScript tells a run, also while it computes. */
+/* What JavaScript writes for a run, also while it computes. */
 typedef struct control {
     _Atomic uint32_t is_stopped;
     uint32_t threads;
@@ -145,19 +145,19 @@ static const kind hashing = {7, compute_hash, settings_of_hash};
 static const kind verifying = {5, compute_verdict, settings_of_string};
 
 /* Reports the progress, and says whether to stop. */
-static int tell(void *arg, uint64_t done, uint64_t all)
+static int report_progress(void *arg, uint64_t done, uint64_t all)
 {
     run *const self = arg;
-    control *const told = self->parts[0].at;
+    control *const shared = self->parts[0].at;
     self->slices = all;
-    if (told->is_reported) {
+    if (shared->is_reported) {
         napi_call_threadsafe_function(self->listener, (void *)(uintptr_t)done, NONBLOCKING);
     }
-    return atomic_load(&told->is_stopped) != 0 || self->is_abandoned;
+    return atomic_load(&shared->is_stopped) != 0 || self->is_abandoned;
 }
 
 /* Has JavaScript hear that a run has ended. */
-static void tell_end(run *self)
+static void report_end(run *self)
 {
     napi_call_threadsafe_function(self->listener, NULL, NONBLOCKING);
     napi_release_threadsafe_function(self->listener, RELEASE);
@@ -173,11 +173,11 @@ static void compute(run *self)
     with.threads = ((control *)self->parts[0].at)->threads;
     with.memory = own == NULL ? NULL : own->memory;
     with.memory_len = own == NULL ? 0 : own->len;
-    with.progress = tell;
+    with.progress = report_progress;
     with.arg = self;
     self->code = self->kind->compute(&with, self->parts);
     keep_buffer(own, &settings);
-    tell_end(self);
+    report_end(self);
 }
 
 /* Waits for a run. Frees the kept buffers that have been unused for too long meanwhile. The pool is locked. */
@@ -263,7 +263,7 @@ static void abandon(void *arg)
         unqueue(self);
         self->code = PROVED_ARGON2_STOPPED;
         self->is_over = true;
-        tell_end(self);
+        report_end(self);
     }
     pthread_mutex_unlock(&pool.lock);
     await_end(self);

@@ -9,7 +9,7 @@ ghost use Rattle.argon2_commands.specs.declared.usage.Program.TheVariants.{Argon
 
 use crate::command_line::{CommandLine, arguments};
 use crate::runs::conclude;
-use crate::usage::{Program, tell};
+use crate::usage::{Program, report_fault};
 use argon2::parts::memory::wipe_stack;
 use std::alloc::Global;
 use std::io::{Read, Write};
@@ -48,7 +48,7 @@ pub fn start<R: Threads + Wait + Sync, L: CommandLine, I: Read, O: Write, E: Wri
 {
     let words = match arguments(line, alloc) {
         Ok(words) => words,
-        Err(fault) => return ExitCode::from(tell(program, None, &fault, errors)),
+        Err(fault) => return ExitCode::from(report_fault(program, None, &fault, errors)),
     };
     let status = conclude(rt, alloc, program, words.as_slice(), input, output, errors);
     wipe_stack();

@@ -10,7 +10,7 @@ ghost use Rattle.argon2_commands.specs.Words.{IsCommand, IsNoCommand, texts_of};
 use crate::answer::Answer;
 use crate::command::Command;
 use crate::fault::Fault;
-use crate::usage::{Program, tell};
+use crate::usage::{Program, report_fault};
 use std::alloc::Global;
 use std::io;
 use std::io::{ErrorKind, Read, Write};
@@ -64,7 +64,7 @@ pub fn conclude<R: Threads + Wait + Sync, I: Read, O: Write, E: Write>(
 {
     match attempt(rt, alloc, program, words, input, output) {
         Ok(status) => status,
-        Err(fault) => tell(program, Some(words), &fault, errors),
+        Err(fault) => report_fault(program, Some(words), &fault, errors),
     }
 }
 

@@ -210,7 +210,7 @@ pub(crate) fn number_of(word: &str) -> Option<u32>
 
 /// Writes the line of a fault, and what the tool adds to it, and returns the exit status. If an
 /// argument is not UTF-8, `words` is None.
-pub(crate) fn tell<E: Write>(
+pub(crate) fn report_fault<E: Write>(
     program: Program,
     words: Option<&[String]>,
     fault: &Fault,

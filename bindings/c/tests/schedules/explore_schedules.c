@@ -610,7 +610,7 @@ uint32_t proved_argon2_job_verify_over(const proved_argon2_job *passed_job, bloc
 /* ---- the caller's callbacks */
 
 /* Goes on, stops, or goes on in a child that was forked here, where there are no other threads. */
-static int tell(void *arg, uint64_t done, uint64_t all)
+static int report_progress(void *arg, uint64_t done, uint64_t all)
 {
     must(arg == &asked && run.code == PROVED_ARGON2_OK && done == ++run.reported && all == 4 * (uint64_t)asked.passes,
         "each slice is reported once");
@@ -658,7 +658,7 @@ static uint32_t make_call(uint8_t *tag)
     with.memory_len = asked.is_callers ? arena_len() : 0;
     with.run = asked.has_pool ? run_tasks : NULL;
     with.pool = &job;
-    with.progress = asked.has_progress ? tell : NULL;
+    with.progress = asked.has_progress ? report_progress : NULL;
     with.arg = &asked;
     uint32_t code = proved_driver_begin_call(&call, &with, false);
     model = (struct model){.call = &call};

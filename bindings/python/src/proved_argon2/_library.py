@@ -181,7 +181,7 @@ def _buffer(length: int) -> "ctypes.Array[ctypes.c_char]":
         raise Refused(OUT_OF_MEMORY) from None
 
 
-class Telling:
+class ProgressCallback:
     """The progress callback of a call. It calls `progress` and lets the handlers of signals run. An exception of these
     stops the call, and leaves the `with` block.
 
@@ -211,7 +211,7 @@ class Telling:
         while True:
             yield 1
 
-    def __enter__(self) -> "Telling":
+    def __enter__(self) -> "ProgressCallback":
         self._is_entered = True
         return self
 
@@ -228,7 +228,7 @@ def _runs_handlers() -> bool:
 
 
 def _options(
-    threads: int, limits: "Optional[NumberLimits]", pages: "Optional[Pages]", telling: "Optional[Telling]"
+    threads: int, limits: "Optional[NumberLimits]", pages: "Optional[Pages]", callback: "Optional[ProgressCallback]"
 ) -> Options:
     """Return options for a call. They keep the limits and the progress callback alive, but not the pages."""
     options = Options(ctypes.sizeof(Options), threads)
@@ -236,8 +236,8 @@ def _options(
         options.memory, options.memory_len = pages.address, pages.length
     if limits is not None:
         options.limits = ctypes.pointer(limits)
-    if telling is not None:
-        options.progress = _Progress(telling.send)
+    if callback is not None:
+        options.progress = _Progress(callback.send)
     return options
 
 
@@ -254,21 +254,21 @@ def _compute(
     accepts the settings. If the system denies the larger buffer, the call allocates memory of its own.
     """
 
-    def over_memory(telling: "Optional[Telling]") -> int:
+    def over_memory(callback: "Optional[ProgressCallback]") -> int:
         if memory is None:
-            return call(_options(settings.lanes, limits, None, telling))
+            return call(_options(settings.lanes, limits, None, callback))
         with memory.pages_for_call(settings) as pages:
-            number = call(_options(settings.lanes, limits, pages, telling))
+            number = call(_options(settings.lanes, limits, pages, callback))
             if number == OUT_OF_MEMORY and pages is not None and pages.is_too_small(settings):
                 grown = pages if pages.grow(settings) else None
-                number = call(_options(settings.lanes, limits, grown, telling))
+                number = call(_options(settings.lanes, limits, grown, callback))
         return number
 
     if progress is None and not _runs_handlers():
         _require(over_memory(None))
         return
-    with Telling(progress, 4 * settings.time_cost) as telling:
-        number = over_memory(telling)
+    with ProgressCallback(progress, 4 * settings.time_cost) as callback:
+        number = over_memory(callback)
     _require(number)
 
 

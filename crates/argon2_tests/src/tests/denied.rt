@@ -63,7 +63,7 @@ fn in_mode(variant: Variant, thread_mode: ThreadMode) -> Config<'static> {
 }
 
 /// Prints what came, which is the stated value or a resource error.
-pub fn tell<R: Abort + Print>(rt: &R, answer: argon2::Result<bool>) -> Result<(), Fail> {
+pub fn print_answer<R: Abort + Print>(rt: &R, answer: argon2::Result<bool>) -> Result<(), Fail> {
     match answer {
         Ok(is_stated) => {
             assert!(rt; is_stated, "another value");

@@ -1,7 +1,7 @@
 //! Decoding and writing an encoded hash, what comes where memory is denied, and what the small types show.
 
 use crate::surface::{order_of_variants, order_of_versions};
-use crate::tests::denied::tell;
+use crate::tests::denied::print_answer;
 use crate::tests::small;
 use argon2::parts::board::{Event, Place};
 use argon2::parts::context::Context;
@@ -29,7 +29,7 @@ fn decode_string_denied_in_turn(rt: HostRuntime) -> Result<(), Fail> {
         decoded.salt.as_slice() == b"somesalt".as_slice()
             && decoded.hash.as_slice() == TAG.as_slice()
     });
-    tell(&rt, answer)
+    print_answer(&rt, answer)
 }
 
 #[test]
@@ -37,7 +37,7 @@ fn encode_string_denied_in_turn(rt: HostRuntime) -> Result<(), Fail> {
     let config = small(Variant::Argon2i, Version::Version13, 1);
     let context = Context::new(config, b"password", b"somesalt")?;
     let answer = encode_string(rt.alloc(), &context, &TAG);
-    tell(&rt, answer.map(|text| text.as_str() == TEXT))
+    print_answer(&rt, answer.map(|text| text.as_str() == TEXT))
 }
 
 // Each fault before the salt, the missing or added `$` among them, as in the rows. For these

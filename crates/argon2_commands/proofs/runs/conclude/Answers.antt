@@ -33,32 +33,32 @@ returns-in-Ok-clause-silent g c low = untouched (g.E.Write.contents c.args.error
 
 pub returns-in-Err-clause-bounded : goal.returns-in-Err-clause-bounded
 returns-in-Err-clause-bounded g c =
-    fault_bounded c.args.program (texts_of c.args.words.now) c.in-Err.fault c.tell.result c.tell.ensures c.in-Err.ensures.costly
+    fault_bounded c.args.program (texts_of c.args.words.now) c.in-Err.fault c.report_fault.result c.report_fault.ensures c.in-Err.ensures.costly
 
 pub returns-in-Err-clause-answered : goal.returns-in-Err-clause-answered
-returns-in-Err-clause-answered g c = no_fault c.in-Err.fault c.tell.result c.tell.ensures
+returns-in-Err-clause-answered g c = no_fault c.in-Err.fault c.report_fault.result c.report_fault.ensures
 
 pub returns-in-Err-clause-usage : goal.returns-in-Err-clause-usage
-returns-in-Err-clause-usage g c = usage_status c.in-Err.fault c.tell.result _ c.tell.ensures c.in-Err.ensures.usage
+returns-in-Err-clause-usage g c = usage_status c.in-Err.fault c.report_fault.result _ c.report_fault.ensures c.in-Err.ensures.usage
 
 pub returns-in-Err-clause-refused : goal.returns-in-Err-clause-refused
 returns-in-Err-clause-refused g c =
-    at_two c.args.program c.in-Err.fault c.tell.result _ _ _ _ c.tell.ensures c.in-Err.ensures.refused c.in-Err.ensures.short c.in-Err.ensures.unwritten
+    at_two c.args.program c.in-Err.fault c.report_fault.result _ _ _ _ c.report_fault.ensures c.in-Err.ensures.refused c.in-Err.ensures.short c.in-Err.ensures.unwritten
 
 pub returns-in-Err-clause-costly : goal.returns-in-Err-clause-costly
 returns-in-Err-clause-costly g c five =
-    let costly = at_five c.in-Err.fault c.tell.result c.tell.ensures five in
+    let costly = at_five c.in-Err.fault c.report_fault.result c.report_fault.ensures five in
     (c.in-Err.ensures.unwritten (subst IsBeforeOutput (sym costly) tt), c.in-Err.ensures.costly costly)
 
 pub returns-in-Err-clause-judged : goal.returns-in-Err-clause-judged
-returns-in-Err-clause-judged g c costly = fault_above c.in-Err.fault c.tell.result c.tell.ensures
+returns-in-Err-clause-judged g c costly = fault_above c.in-Err.fault c.report_fault.result c.report_fault.ensures
 
 pub returns-in-Err-clause-unwritten : goal.returns-in-Err-clause-unwritten
 returns-in-Err-clause-unwritten g c three =
-    c.in-Err.ensures.unwritten (subst IsBeforeOutput (sym (at_three c.in-Err.fault c.tell.result c.tell.ensures three)) tt)
+    c.in-Err.ensures.unwritten (subst IsBeforeOutput (sym (at_three c.in-Err.fault c.report_fault.result c.report_fault.ensures three)) tt)
 
 pub returns-in-Err-clause-unread : goal.returns-in-Err-clause-unread
 returns-in-Err-clause-unread g c = c.in-Err.ensures.unread
 
 pub returns-in-Err-clause-silent : goal.returns-in-Err-clause-silent
-returns-in-Err-clause-silent g c = no_fault c.in-Err.fault c.tell.result c.tell.ensures
+returns-in-Err-clause-silent g c = no_fault c.in-Err.fault c.report_fault.result c.report_fault.ensures

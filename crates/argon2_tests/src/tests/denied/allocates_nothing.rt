@@ -1,6 +1,6 @@
 //! Errors that are returned before any memory is allocated, whatever request is denied.
 
-use super::tell;
+use super::print_answer;
 use crate::tests::encoding::HEAD_FAULTS;
 use crate::tests::small;
 use argon2::Error::{
@@ -103,7 +103,7 @@ fn hashing_allocates_nothing_denied_in_turn(rt: HostRuntime) -> Result<(), Fail>
             assert!(rt; is(error, text), "{config:?}");
         }
     }
-    tell(&rt, Ok(true))
+    print_answer(&rt, Ok(true))
 }
 
 #[test]
@@ -120,7 +120,7 @@ fn verifying_a_tag_allocates_nothing_denied_in_turn(rt: HostRuntime) -> Result<(
             assert!(rt; is(error, answer), "{config:?}");
         }
     }
-    tell(&rt, Ok(true))
+    print_answer(&rt, Ok(true))
 }
 
 // Whatever length the settings name.
@@ -138,7 +138,7 @@ fn verifying_an_empty_tag_allocates_nothing_denied_in_turn(rt: HostRuntime) -> R
         let answer = verify_raw_sequential(alloc, b"password", b"somesalt", &[], &config);
         assert!(rt; is(&OutputTooShort, answer), "{hash_length}");
     }
-    tell(&rt, Ok(true))
+    print_answer(&rt, Ok(true))
 }
 
 /// Whether each call that verifies an encoded hash returns this error for it.
@@ -163,7 +163,7 @@ fn a_string_of_no_hash_allocates_nothing_denied_in_turn(rt: HostRuntime) -> Resu
         let answer = needs_rehash(rt.alloc(), text, &config);
         assert!(rt; is(&Error::DecodingFail, answer), "{text}");
     }
-    tell(&rt, Ok(true))
+    print_answer(&rt, Ok(true))
 }
 
 #[test]
@@ -171,5 +171,5 @@ fn a_rejected_string_allocates_nothing_denied_in_turn(rt: HostRuntime) -> Result
     for (text, error) in &REJECTED {
         assert!(rt; is_text_error(&rt, rt.alloc(), text, error), "{text}");
     }
-    tell(&rt, Ok(true))
+    print_answer(&rt, Ok(true))
 }

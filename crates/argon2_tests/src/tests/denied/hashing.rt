@@ -1,6 +1,6 @@
 //! Hashing, to a tag and to an encoded hash.
 
-use super::{PASSWORD, SALT, TEXT, in_mode, tag_of, tell};
+use super::{PASSWORD, SALT, TEXT, in_mode, print_answer, tag_of};
 use crate::tests::small;
 use argon2::ThreadMode::{AtMost, Parallel, Sequential};
 use argon2::Variant::{Argon2d, Argon2i, Argon2id};
@@ -51,84 +51,84 @@ fn encode<R: Threads + Wait + Sync>(
 
 #[test]
 fn hash_raw_by_workers_argon2d_denied_in_turn(rt: HostRuntime) -> Result<(), Fail> {
-    tell(&rt, hash(&rt, rt.alloc(), Argon2d, Parallel))
+    print_answer(&rt, hash(&rt, rt.alloc(), Argon2d, Parallel))
 }
 
 #[test]
 fn hash_raw_by_two_workers_argon2d_denied_in_turn(rt: HostRuntime) -> Result<(), Fail> {
-    tell(&rt, hash(&rt, rt.alloc(), Argon2d, AtMost(2)))
+    print_answer(&rt, hash(&rt, rt.alloc(), Argon2d, AtMost(2)))
 }
 
 #[test]
 fn hash_raw_in_one_thread_argon2d_denied_in_turn(rt: HostRuntime) -> Result<(), Fail> {
-    tell(&rt, hash(&rt, rt.alloc(), Argon2d, Sequential))
+    print_answer(&rt, hash(&rt, rt.alloc(), Argon2d, Sequential))
 }
 
 #[test]
 fn hash_raw_sequential_argon2d_denied_in_turn(rt: HostRuntime) -> Result<(), Fail> {
-    tell(&rt, hash_sequential(rt.alloc(), Argon2d))
+    print_answer(&rt, hash_sequential(rt.alloc(), Argon2d))
 }
 
 #[test]
 fn hash_raw_by_workers_argon2i_denied_in_turn(rt: HostRuntime) -> Result<(), Fail> {
-    tell(&rt, hash(&rt, rt.alloc(), Argon2i, Parallel))
+    print_answer(&rt, hash(&rt, rt.alloc(), Argon2i, Parallel))
 }
 
 #[test]
 fn hash_raw_by_two_workers_argon2i_denied_in_turn(rt: HostRuntime) -> Result<(), Fail> {
-    tell(&rt, hash(&rt, rt.alloc(), Argon2i, AtMost(2)))
+    print_answer(&rt, hash(&rt, rt.alloc(), Argon2i, AtMost(2)))
 }
 
 #[test]
 fn hash_raw_in_one_thread_argon2i_denied_in_turn(rt: HostRuntime) -> Result<(), Fail> {
-    tell(&rt, hash(&rt, rt.alloc(), Argon2i, Sequential))
+    print_answer(&rt, hash(&rt, rt.alloc(), Argon2i, Sequential))
 }
 
 #[test]
 fn hash_raw_sequential_argon2i_denied_in_turn(rt: HostRuntime) -> Result<(), Fail> {
-    tell(&rt, hash_sequential(rt.alloc(), Argon2i))
+    print_answer(&rt, hash_sequential(rt.alloc(), Argon2i))
 }
 
 #[test]
 fn hash_raw_by_workers_argon2id_denied_in_turn(rt: HostRuntime) -> Result<(), Fail> {
-    tell(&rt, hash(&rt, rt.alloc(), Argon2id, Parallel))
+    print_answer(&rt, hash(&rt, rt.alloc(), Argon2id, Parallel))
 }
 
 #[test]
 fn hash_raw_by_two_workers_argon2id_denied_in_turn(rt: HostRuntime) -> Result<(), Fail> {
-    tell(&rt, hash(&rt, rt.alloc(), Argon2id, AtMost(2)))
+    print_answer(&rt, hash(&rt, rt.alloc(), Argon2id, AtMost(2)))
 }
 
 #[test]
 fn hash_raw_in_one_thread_argon2id_denied_in_turn(rt: HostRuntime) -> Result<(), Fail> {
-    tell(&rt, hash(&rt, rt.alloc(), Argon2id, Sequential))
+    print_answer(&rt, hash(&rt, rt.alloc(), Argon2id, Sequential))
 }
 
 #[test]
 fn hash_raw_sequential_argon2id_denied_in_turn(rt: HostRuntime) -> Result<(), Fail> {
-    tell(&rt, hash_sequential(rt.alloc(), Argon2id))
+    print_answer(&rt, hash_sequential(rt.alloc(), Argon2id))
 }
 
 #[test]
 fn hash_encoded_by_workers_denied_in_turn(rt: HostRuntime) -> Result<(), Fail> {
-    tell(&rt, encode(&rt, rt.alloc(), Parallel))
+    print_answer(&rt, encode(&rt, rt.alloc(), Parallel))
 }
 
 #[test]
 fn hash_encoded_by_two_workers_denied_in_turn(rt: HostRuntime) -> Result<(), Fail> {
-    tell(&rt, encode(&rt, rt.alloc(), AtMost(2)))
+    print_answer(&rt, encode(&rt, rt.alloc(), AtMost(2)))
 }
 
 #[test]
 fn hash_encoded_in_one_thread_denied_in_turn(rt: HostRuntime) -> Result<(), Fail> {
-    tell(&rt, encode(&rt, rt.alloc(), Sequential))
+    print_answer(&rt, encode(&rt, rt.alloc(), Sequential))
 }
 
 #[test]
 fn hash_encoded_sequential_denied_in_turn(rt: HostRuntime) -> Result<(), Fail> {
     let config = in_mode(Argon2id, Parallel);
     let answer = hash_encoded_sequential(rt.alloc(), &PASSWORD, &SALT, &config);
-    tell(&rt, answer.map(|text| text.as_str() == TEXT))
+    print_answer(&rt, answer.map(|text| text.as_str() == TEXT))
 }
 
 // More workers than a batch of handles holds, and a single pass.
@@ -141,5 +141,5 @@ fn hash_raw_by_forty_workers_denied_in_turn(rt: HostRuntime) -> Result<(), Fail>
         ..small(Argon2id, Version::Version13, 40)
     };
     let tag = hash_raw(&rt, rt.alloc(), b"password", b"somesalt", &config);
-    tell(&rt, tag.map(|tag| tag.as_slice() == OF_40_LANES.as_slice()))
+    print_answer(&rt, tag.map(|tag| tag.as_slice() == OF_40_LANES.as_slice()))
 }

@@ -1,7 +1,7 @@
 //! Verifying within limits: what is too costly is rejected before any memory is allocated or any
 //! worker started.
 
-use super::{AD, PASSWORD, SECRET, TEXT, tell};
+use super::{AD, PASSWORD, SECRET, TEXT, print_answer};
 use argon2::{Error, Limits, Unverified, verify_encoded_within, verify_encoded_within_sequential};
 use std::alloc::Global;
 use std::marker::Sync;
@@ -122,14 +122,14 @@ fn without_limits(answer: Result<bool, Unverified>) -> argon2::Result<bool> {
 fn verify_encoded_within_denied_in_turn(rt: HostRuntime) -> Result<(), Fail> {
     let (alloc, limits) = (rt.alloc(), limits_of(OF_TEXT));
     let answer = verify_encoded_within(&rt, alloc, TEXT, &PASSWORD, &SECRET, &AD, &limits);
-    tell(&rt, without_limits(answer))
+    print_answer(&rt, without_limits(answer))
 }
 
 #[test]
 fn verify_encoded_within_sequential_denied_in_turn(rt: HostRuntime) -> Result<(), Fail> {
     let (alloc, limits) = (rt.alloc(), Limits::default());
     let answer = verify_encoded_within_sequential(alloc, TEXT, &PASSWORD, &SECRET, &AD, &limits);
-    tell(&rt, without_limits(answer))
+    print_answer(&rt, without_limits(answer))
 }
 
 #[test]
@@ -143,7 +143,7 @@ fn a_costly_text_allocates_nothing_denied_in_turn(rt: HostRuntime) -> Result<(),
         let is_costly = both_answer(&rt, alloc, text, &Limits::default(), &Unverified::TooCostly);
         assert!(rt; is_costly, "{text}");
     }
-    tell(&rt, Ok(true))
+    print_answer(&rt, Ok(true))
 }
 
 // Strings of four more characters each, whose hashes are whole groups of base64.
@@ -157,7 +157,7 @@ fn a_costly_text_of_any_length_allocates_nothing_denied_in_turn(
         let is_costly = both_answer(&rt, alloc, text, &limits, &Unverified::TooCostly);
         assert!(rt; is_costly, "{text}");
     }
-    tell(&rt, Ok(true))
+    print_answer(&rt, Ok(true))
 }
 
 // A salt of five bytes: no tag is computed.
@@ -170,5 +170,5 @@ fn a_text_within_limits_is_judged_denied_in_turn(rt: HostRuntime) -> Result<(), 
     }
     let (none, unspelled) = (limits_of(NONE), Unverified::Refused(Error::DecodingFail));
     assert!(rt; both_answer(&rt, alloc, "$argon2id$", &none, &unspelled));
-    tell(&rt, Ok(true))
+    print_answer(&rt, Ok(true))
 }

@@ -1,6 +1,6 @@
 //! The matrix call by call, and each call twice in a reusable buffer, where each denied allocation gives the error.
 
-use super::{AD, ARGON2D, ARGON2ID, PASSWORD, SALT, SECRET, TEXT, in_mode, tell};
+use super::{AD, ARGON2D, ARGON2ID, PASSWORD, SALT, SECRET, TEXT, in_mode, print_answer};
 use argon2::parts::blake2b::hprime;
 use argon2::parts::context::Context;
 use argon2::parts::fill::{
@@ -29,7 +29,7 @@ fn context(variant: Variant, mode: ThreadMode) -> argon2::Result<Context<'static
 fn memory_new_denied_in_turn(rt: HostRuntime) -> Result<(), Fail> {
     let memory = Memory::new(rt.alloc(), 4, 8);
     let answer = memory.map(|memory| memory.lanes() == 4 && memory.writes() == 0);
-    tell(&rt, answer)
+    print_answer(&rt, answer)
 }
 
 /// Whether a memory of 4 lanes of 8 blocks is filled, and H' writes 100 bytes.
@@ -48,17 +48,17 @@ fn filled(alloc: Global, variant: Variant) -> argon2::Result<bool> {
 // block, Argon2d's on blocks, Argon2id's first on none and then on blocks.
 #[test]
 fn memory_new_and_filled_argon2d_denied_in_turn(rt: HostRuntime) -> Result<(), Fail> {
-    tell(&rt, filled(rt.alloc(), Variant::Argon2d))
+    print_answer(&rt, filled(rt.alloc(), Variant::Argon2d))
 }
 
 #[test]
 fn memory_new_and_filled_argon2i_denied_in_turn(rt: HostRuntime) -> Result<(), Fail> {
-    tell(&rt, filled(rt.alloc(), Variant::Argon2i))
+    print_answer(&rt, filled(rt.alloc(), Variant::Argon2i))
 }
 
 #[test]
 fn memory_new_and_filled_argon2id_denied_in_turn(rt: HostRuntime) -> Result<(), Fail> {
-    tell(&rt, filled(rt.alloc(), Variant::Argon2id))
+    print_answer(&rt, filled(rt.alloc(), Variant::Argon2id))
 }
 
 /// Whether a memory is filled in a thread mode.
@@ -77,17 +77,17 @@ fn filled_in_mode<R: Threads + Wait + Sync>(
 
 #[test]
 fn fill_memory_blocks_by_workers_denied_in_turn(rt: HostRuntime) -> Result<(), Fail> {
-    tell(&rt, filled_in_mode(&rt, rt.alloc(), ThreadMode::Parallel))
+    print_answer(&rt, filled_in_mode(&rt, rt.alloc(), ThreadMode::Parallel))
 }
 
 #[test]
 fn fill_memory_blocks_by_two_workers_denied_in_turn(rt: HostRuntime) -> Result<(), Fail> {
-    tell(&rt, filled_in_mode(&rt, rt.alloc(), ThreadMode::AtMost(2)))
+    print_answer(&rt, filled_in_mode(&rt, rt.alloc(), ThreadMode::AtMost(2)))
 }
 
 #[test]
 fn fill_memory_blocks_in_one_thread_denied_in_turn(rt: HostRuntime) -> Result<(), Fail> {
-    tell(&rt, filled_in_mode(&rt, rt.alloc(), ThreadMode::Sequential))
+    print_answer(&rt, filled_in_mode(&rt, rt.alloc(), ThreadMode::Sequential))
 }
 
 /// Whether the hash of a filled memory is the tag.
@@ -103,7 +103,7 @@ fn hashed(alloc: Global) -> argon2::Result<bool> {
 
 #[test]
 fn finalize_denied_in_turn(rt: HostRuntime) -> Result<(), Fail> {
-    tell(&rt, hashed(rt.alloc()))
+    print_answer(&rt, hashed(rt.alloc()))
 }
 
 // ---- each call twice in a reusable buffer of the caller. The second call allocates no blocks, and
@@ -133,7 +133,7 @@ fn hash_raw_in_twice_denied_in_turn(rt: HostRuntime) -> Result<(), Fail> {
         let tag = hash_raw_in(&rt, alloc, memory, &PASSWORD, &SALT, &config)?;
         Ok(tag.as_slice() == ARGON2ID.as_slice())
     });
-    tell(&rt, answer)
+    print_answer(&rt, answer)
 }
 
 #[test]
@@ -143,7 +143,7 @@ fn hash_raw_in_sequential_twice_denied_in_turn(rt: HostRuntime) -> Result<(), Fa
         let tag = hash_raw_in_sequential(alloc, memory, &PASSWORD, &SALT, &config)?;
         Ok(tag.as_slice() == ARGON2ID.as_slice())
     });
-    tell(&rt, answer)
+    print_answer(&rt, answer)
 }
 
 /// Whether the tag comes in a buffer of twice the blocks, which has to be freed first.
@@ -155,7 +155,7 @@ fn hash_in_another_shape(alloc: Global) -> argon2::Result<bool> {
 
 #[test]
 fn hash_raw_in_another_shape_denied_in_turn(rt: HostRuntime) -> Result<(), Fail> {
-    tell(&rt, hash_in_another_shape(rt.alloc()))
+    print_answer(&rt, hash_in_another_shape(rt.alloc()))
 }
 
 #[test]
@@ -165,7 +165,7 @@ fn hash_encoded_in_twice_denied_in_turn(rt: HostRuntime) -> Result<(), Fail> {
         let text = hash_encoded_in(&rt, alloc, memory, &PASSWORD, &SALT, &config)?;
         Ok(text.as_str() == TEXT)
     });
-    tell(&rt, answer)
+    print_answer(&rt, answer)
 }
 
 #[test]
@@ -175,7 +175,7 @@ fn hash_encoded_in_sequential_twice_denied_in_turn(rt: HostRuntime) -> Result<()
         let text = hash_encoded_in_sequential(alloc, memory, &PASSWORD, &SALT, &config)?;
         Ok(text.as_str() == TEXT)
     });
-    tell(&rt, answer)
+    print_answer(&rt, answer)
 }
 
 #[test]
@@ -184,7 +184,7 @@ fn verify_raw_in_twice_denied_in_turn(rt: HostRuntime) -> Result<(), Fail> {
     let answer = twice(alloc, |memory| {
         verify_raw_in(&rt, alloc, memory, &PASSWORD, &SALT, &ARGON2ID, &config)
     });
-    tell(&rt, answer)
+    print_answer(&rt, answer)
 }
 
 #[test]
@@ -193,7 +193,7 @@ fn verify_raw_in_sequential_twice_denied_in_turn(rt: HostRuntime) -> Result<(), 
     let answer = twice(alloc, |memory| {
         verify_raw_in_sequential(alloc, memory, &PASSWORD, &SALT, &ARGON2ID, &config)
     });
-    tell(&rt, answer)
+    print_answer(&rt, answer)
 }
 
 #[test]
@@ -202,7 +202,7 @@ fn verify_encoded_in_twice_denied_in_turn(rt: HostRuntime) -> Result<(), Fail> {
     let answer = twice(alloc, |memory| {
         verify_encoded_in(&rt, alloc, memory, TEXT, &PASSWORD, &SECRET, &AD)
     });
-    tell(&rt, answer)
+    print_answer(&rt, answer)
 }
 
 #[test]
@@ -211,5 +211,5 @@ fn verify_encoded_in_sequential_twice_denied_in_turn(rt: HostRuntime) -> Result<
     let answer = twice(alloc, |memory| {
         verify_encoded_in_sequential(alloc, memory, TEXT, &PASSWORD, &SECRET, &AD)
     });
-    tell(&rt, answer)
+    print_answer(&rt, answer)
 }

@@ -1,6 +1,6 @@
 //! Verifying, against a tag and against an encoded hash, and what an encoded hash was made with.
 
-use super::{AD, ARGON2ID, PASSWORD, SALT, SECRET, TEXT, in_mode, tell};
+use super::{AD, ARGON2ID, PASSWORD, SALT, SECRET, TEXT, in_mode, print_answer};
 use crate::tests::small;
 use argon2::{
     Config, ThreadMode, Variant, Version, needs_rehash, verify_encoded, verify_encoded_ext,
@@ -48,36 +48,36 @@ fn verify<R: Threads + Wait + Sync>(
 
 #[test]
 fn verify_raw_by_workers_denied_in_turn(rt: HostRuntime) -> Result<(), Fail> {
-    tell(&rt, verify(&rt, rt.alloc(), ThreadMode::Parallel))
+    print_answer(&rt, verify(&rt, rt.alloc(), ThreadMode::Parallel))
 }
 
 #[test]
 fn verify_raw_by_two_workers_denied_in_turn(rt: HostRuntime) -> Result<(), Fail> {
-    tell(&rt, verify(&rt, rt.alloc(), ThreadMode::AtMost(2)))
+    print_answer(&rt, verify(&rt, rt.alloc(), ThreadMode::AtMost(2)))
 }
 
 #[test]
 fn verify_raw_in_one_thread_denied_in_turn(rt: HostRuntime) -> Result<(), Fail> {
-    tell(&rt, verify(&rt, rt.alloc(), ThreadMode::Sequential))
+    print_answer(&rt, verify(&rt, rt.alloc(), ThreadMode::Sequential))
 }
 
 #[test]
 fn verify_raw_sequential_denied_in_turn(rt: HostRuntime) -> Result<(), Fail> {
     let config = in_mode(Variant::Argon2id, ThreadMode::Parallel);
     let answer = verify_raw_sequential(rt.alloc(), &PASSWORD, &SALT, &ARGON2ID, &config);
-    tell(&rt, answer)
+    print_answer(&rt, answer)
 }
 
 #[test]
 fn verify_encoded_denied_in_turn(rt: HostRuntime) -> Result<(), Fail> {
     let answer = verify_encoded(&rt, rt.alloc(), OF_16_LANES, b"password");
-    tell(&rt, answer)
+    print_answer(&rt, answer)
 }
 
 #[test]
 fn verify_encoded_ext_denied_in_turn(rt: HostRuntime) -> Result<(), Fail> {
     let answer = verify_encoded_ext(&rt, rt.alloc(), TEXT, &PASSWORD, &SECRET, &AD);
-    tell(&rt, answer)
+    print_answer(&rt, answer)
 }
 
 // 16 workers at most.
@@ -85,20 +85,20 @@ fn verify_encoded_ext_denied_in_turn(rt: HostRuntime) -> Result<(), Fail> {
 fn verify_encoded_ext_of_20_lanes_denied_in_turn(rt: HostRuntime) -> Result<(), Fail> {
     let (password, secret) = (&PASSWORD_OF_20_LANES, &SECRET_OF_20_LANES);
     let answer = verify_encoded_ext(&rt, rt.alloc(), OF_20_LANES, password, secret, b"");
-    tell(&rt, answer)
+    print_answer(&rt, answer)
 }
 
 #[test]
 fn verify_encoded_sequential_denied_in_turn(rt: HostRuntime) -> Result<(), Fail> {
     let answer = verify_encoded_sequential(rt.alloc(), TEXT, &PASSWORD, &SECRET, &AD);
-    tell(&rt, answer)
+    print_answer(&rt, answer)
 }
 
 // Another password than the encoded hash's: no denied request turns the result into `true`.
 #[test]
 fn verify_encoded_of_another_password_denied_in_turn(rt: HostRuntime) -> Result<(), Fail> {
     let answer = verify_encoded(&rt, rt.alloc(), OF_16_LANES, b"passwore");
-    tell(&rt, answer.map(|is_password| !is_password))
+    print_answer(&rt, answer.map(|is_password| !is_password))
 }
 
 #[test]
@@ -107,12 +107,12 @@ fn needs_rehash_denied_in_turn(rt: HostRuntime) -> Result<(), Fail> {
         time_cost: 3,
         ..small(Variant::Argon2id, Version::Version13, 16)
     };
-    tell(&rt, needs_rehash(rt.alloc(), OF_16_LANES, &more))
+    print_answer(&rt, needs_rehash(rt.alloc(), OF_16_LANES, &more))
 }
 
 #[test]
 fn needs_no_rehash_denied_in_turn(rt: HostRuntime) -> Result<(), Fail> {
     let same = small(Variant::Argon2id, Version::Version13, 16);
     let answer = needs_rehash(rt.alloc(), OF_16_LANES, &same);
-    tell(&rt, answer.map(|differs| !differs))
+    print_answer(&rt, answer.map(|differs| !differs))
 }
