@@ -27,6 +27,8 @@ TYPES = {
 }
 # The errors from 64 on that Go's calls return.
 OTHERS_OF_GO = 'too_costly', 'no_random_bytes', 'old_processor'
+# What errors mean in Go, which passes the library no thread pool, and no buffer that is too small.
+WORDS_OF_GO = {'out_of_memory': 'memory could not be allocated', 'worker_refused': 'never returned'}
 # Patterns for a placeholder's value, some by its name, and for the blank between words.
 VALUE, BLANK = r'\d(?:[\d_,]*\d)?(?: [KMG]iB)?', r'\s+(?:(?:///|//|#|\*|--) )?'
 OF_PLACEHOLDER = {
@@ -117,8 +119,9 @@ def errors():
 
 
 def errors_for_go(every):
-    """The same for each error that Go's calls return, padded for columns."""
-    found = [error for error in every if int(error['n']) < 64 or error['name'] in OTHERS_OF_GO]
+    """The same for each error that Go has, padded for columns."""
+    found = [{**error, 'words': WORDS_OF_GO.get(error['name'], error['words'])} for error in every
+             if int(error['n']) < 64 or error['name'] in OTHERS_OF_GO]
     wide = max(len(error['Name']) for error in found)
     return [{**error, 'padded': error['Name'].ljust(wide), 'gap': ' ' * (3 - len(error['n']))} for error in found]
 

@@ -5,9 +5,9 @@ func Key(password, salt []byte, time, memory uint32, threads uint8, keyLen uint3
 	return deriveKey(I, password, salt, time, memory, threads, keyLen)
 }
 
-// IDKey derives a key with Argon2id, as golang.org/x/crypto/argon2 does, with the same panics for no pass and no
-// thread. It also panics with an [Error] if memory runs out, and where Argon2 defines no hash but that package returns
-// bytes: below 8 KiB of memory a thread, 8 bytes of salt, or 4 bytes of key.
+// IDKey derives a key with Argon2id, as golang.org/x/crypto/argon2 does, and panics as that does if time or threads
+// is 0. It also panics with an [Error] if memory runs out, and below 8 KiB of memory a thread, 8 bytes of salt or 4
+// bytes of key: Argon2 defines no hash there, but that package returns bytes.
 func IDKey(password, salt []byte, time, memory uint32, threads uint8, keyLen uint32) []byte {
 	return deriveKey(ID, password, salt, time, memory, threads, keyLen)
 }

@@ -33,8 +33,8 @@ const (
 	ErrIncorrectType    Error = 17  // no variant has this number
 	ErrIncorrectVersion Error = 18  // no version has this number
 	ErrDecodingFail     Error = 19  // the string is not an encoded hash
-	ErrOutOfMemory      Error = 20  // memory could not be allocated, or the buffer of the options is too small
-	ErrWorkerRefused    Error = 21  // the thread pool of the options did not run its tasks
+	ErrOutOfMemory      Error = 20  // memory could not be allocated
+	ErrWorkerRefused    Error = 21  // never returned
 	ErrTooCostly        Error = 69  // the encoded hash is above the limits
 	ErrNoRandomBytes    Error = 129 // the system had no random bytes for a salt
 	ErrOldProcessor     Error = 131 // the library has no build for this processor

@@ -37,8 +37,8 @@ func VerifyUnknown(password []byte, settings Settings) (matches bool, err error)
 	return run{}.verifyUnknown(password, settings)
 }
 
-// run says how calls compute: in a buffer or, without one, in memory of their own; and until they are stopped. A buffer
-// that is too small is replaced by one for the settings of the Hasher.
+// run says in which buffer calls compute, and what stops them. Without a buffer they allocate their own memory.
+// A buffer that is too small is replaced by one for the settings of the Hasher.
 type run struct {
 	memory   *native.Memory
 	stop     *native.Stop

@@ -6,7 +6,6 @@ import (
 	"fmt"
 	"strings"
 	"testing"
-	"time"
 )
 
 var (
@@ -45,7 +44,7 @@ func TestHashMakesNewSalts(t *testing.T) {
 	}
 }
 
-// TestEveryErrorIsReported by each call that hashes, and by verifying a string with these settings.
+// TestEveryErrorIsReported has each call that hashes reject settings, and Verify and NeedsRehash reject strings.
 func TestEveryErrorIsReported(t *testing.T) {
 	for err, change := range map[Error]func(*Settings){
 		ErrOutputTooShort:   func(s *Settings) { s.HashLength = 3 },
@@ -126,26 +125,6 @@ func TestThreadsLimitsVerification(t *testing.T) {
 	}
 }
 
-func TestVerifyUnknownCostsAHashAndNeverMatches(t *testing.T) {
-	var took [2]time.Duration
-	encoded := stored(t, OWASP2())
-	for i := 0; i < 16; i++ { // by turns, so that a busy machine slows both
-		call := func() (bool, error) { return Verify(encoded, []byte("Password")) }
-		if i%2 == 1 {
-			call = func() (bool, error) { return VerifyUnknown(password, OWASP2()) }
-		}
-		begun := time.Now()
-		matches, err := call()
-		took[i%2] += time.Since(begun)
-		if matches || err != nil {
-			t.Error(matches, err)
-		}
-	}
-	if took[1] < took[0]/3 || took[1] > took[0]*3 {
-		t.Error(took)
-	}
-}
-
 func TestLimitsAreTheDefaultOnesOrThoseOfTheSettings(t *testing.T) {
 	expected := Limits{2097152, 10, 16, 4194304}
 	if DefaultLimits() != expected || LimitsFor(OWASP2()) != expected {
@@ -157,7 +136,7 @@ func TestLimitsAreTheDefaultOnesOrThoseOfTheSettings(t *testing.T) {
 	}
 }
 
-func TestIDKeyPanicsAsTheOtherPackageDoes(t *testing.T) {
+func TestIDKeyPanicsForInvalidArguments(t *testing.T) {
 	for _, c := range []struct {
 		salt         string
 		time, memory uint32
@@ -182,8 +161,9 @@ func TestIDKeyPanicsAsTheOtherPackageDoes(t *testing.T) {
 	}
 }
 
-// TestBytesBesidePointers passes bytes of structs that have pointers too, which GODEBUG=cgocheck=2 must not refuse.
-func TestBytesBesidePointers(t *testing.T) {
+// TestBytesBesidePointersAreAccepted passes bytes of structs that have pointers too, which GODEBUG=cgocheck=2 must not
+// refuse.
+func TestBytesBesidePointersAreAccepted(t *testing.T) {
 	type user struct {
 		password, salt, key [16]byte
 		next                *user

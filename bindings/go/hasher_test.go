@@ -27,7 +27,7 @@ func endless() Settings {
 	return s
 }
 
-// hold has a Hasher compute until the context that is returned is cancelled, and returns the error of that.
+// hold has a Hasher compute an endless hash. It returns a function that cancels the hash, and a channel for its error.
 func hold(t testing.TB, h *Hasher) (cancel func(), ended chan error) {
 	cancellable, cancel := context.WithCancel(ctx)
 	before, ended := len(h.queue.places), make(chan error, 1)
@@ -58,7 +58,7 @@ func isZero(b []byte) bool {
 	return true
 }
 
-func TestHasherMakesTheCallsOfThePackage(t *testing.T) {
+func TestHasherUsesItsSettingsAndLimits(t *testing.T) {
 	s := small()
 	s.Secret, s.Data = []byte("key"), []byte("user")
 	h, today := NewHasher(s, 2, 0), s
@@ -113,7 +113,7 @@ func TestCallersComputeOrWaitOrAreTurnedAway(t *testing.T) {
 	}
 }
 
-// TestNobodyIsTurnedAwayWhileNobodyWaits has a caller come after the one that waited got a place, and before it runs.
+// TestNobodyIsTurnedAwayWhileNobodyWaits has a caller come when the one that waited has a place, but does not run yet.
 func TestNobodyIsTurnedAwayWhileNobodyWaits(t *testing.T) {
 	defer runtime.GOMAXPROCS(runtime.GOMAXPROCS(1))
 	for i := 0; i < 50; i++ {

@@ -21,9 +21,10 @@ type Tuning struct {
 	Time     time.Duration
 }
 
-// Tune finds the strongest settings whose hash takes at most the time within on this machine: as much memory as
-// possible, up to most.Memory, and then as many passes as possible, within [DefaultLimits]. All else is as in most. If
-// even the least settings for passwords take longer, it returns [ErrTooSlow]. Hashes take longer on a busy machine.
+// Tune finds the strongest settings whose hash takes no longer than the argument within on this machine: as much memory
+// as possible, up to most.Memory, and then as many passes as possible, within [DefaultLimits]. The other settings are
+// those of most. If even the least settings for passwords take longer, it returns [ErrTooSlow]. Hashes take longer on a
+// busy machine.
 func Tune(ctx context.Context, within time.Duration, most Settings) (Tuning, error) {
 	hasher := NewHasher(most, 1, 0)
 	return tune(within, most, func(s Settings) (time.Duration, error) {

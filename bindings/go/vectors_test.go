@@ -24,8 +24,8 @@ func linesOf(t testing.TB, file string) []string {
 	return strings.Split(strings.TrimSpace(string(text)), "\n")
 }
 
-// said is an error as the vectors have it.
-func said(err error) string {
+// asInVectors is the text of an error as the vectors have it.
+func asInVectors(err error) string {
 	text := strings.TrimPrefix(err.Error(), "argon2: ")
 	return "ERR " + strings.ToUpper(text[:1]) + text[1:]
 }
@@ -36,9 +36,9 @@ func bytesOf(field string) []byte {
 	return found
 }
 
-// TestRaw computes hashes of other implementations, and 800 random ones of libargon2 if RANDOM_HASHES names a file of
-// them, in the buffers of a Hasher and in memory of the call.
-func TestRaw(t *testing.T) {
+// TestHashesEqualThoseOfOtherImplementations, and 800 random ones of libargon2 if RANDOM_HASHES names a file of them,
+// in the buffers of a Hasher and in memory of the call.
+func TestHashesEqualThoseOfOtherImplementations(t *testing.T) {
 	lines, hasher, ctx := linesOf(t, "../vectors/raw.txt"), NewHasher(OWASP2(), 1, 0), context.Background()
 	if file := os.Getenv("RANDOM_HASHES"); file != "" {
 		lines = append(lines, linesOf(t, file)...)
@@ -56,7 +56,7 @@ func TestRaw(t *testing.T) {
 			SaltLength: uint32(len(salt)), Secret: secret, Data: data}
 		tag, err := HashRaw(password, salt, s)
 		if err != nil {
-			if said(err) != fields[10] {
+			if asInVectors(err) != fields[10] {
 				t.Errorf("%s: %v", line, err)
 			}
 			continue
@@ -79,15 +79,15 @@ func TestRaw(t *testing.T) {
 	}
 }
 
-// TestTexts verifies encoded hashes of other implementations, and strings that are none.
-func TestTexts(t *testing.T) {
+// TestEncodedHashesAreVerified has encoded hashes of other implementations, and strings that are none.
+func TestEncodedHashesAreVerified(t *testing.T) {
 	hasher := NewHasher(OWASP2(), 1, 0).Within(noLimits)
 	for _, line := range linesOf(t, "../vectors/texts.txt") {
 		encoded, expected, _ := strings.Cut(line, "\t")
 		matches, err := hasher.Verify(context.Background(), encoded, []byte("password"))
 		found := fmt.Sprint(matches)
 		if err != nil {
-			found = said(err)
+			found = asInVectors(err)
 		}
 		if found != expected {
 			t.Errorf("%s: %s, not %s", encoded, found, expected)

@@ -12,7 +12,7 @@ export const statuses = new Map([[true, 200], [false, 401], [null, 503]]);
 /** A user's name on one line of the log. */
 const shown = (user) => String(user).replace(/[^ -~]/g, '?');
 
-/** Verifies against the stored hash, or as long as that takes if there is no such user. */
+/** Verifies against the stored hash. If there is no such user, it takes as long, and does not match. */
 async function verified(password, stored, options) {
     return stored === null
         ? { matches: await verifyUnknown(password, options), update: null }

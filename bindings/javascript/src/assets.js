@@ -1,4 +1,4 @@
-// The other files of the package, which lie beside this one. The package's single file contains them instead.
+// The other files of the package, which lie beside this one. The file `proved-argon2/inline` contains them instead.
 import { fileOf, readFile } from './platform.js';
 
 // (Each address is written out where it is used, so that bundlers find the files.)

@@ -48,7 +48,7 @@ async function callInLine(line, running, inputs, call) {
     }
 }
 
-/** Does the same with an encoder. The number of an error becomes the error with that name. */
+/** Does the same with an encoder. The number of an error becomes an error of its class. */
 function callWith({ line, addon, progress }, inputs, work) {
     return callInLine(line, progress, inputs, async () => {
         const encoder = new Encoder(addon ?? await openCalls());

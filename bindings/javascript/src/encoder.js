@@ -38,7 +38,7 @@ export class Encoder {
         return new TextDecoder().decode(text).slice(0, -1);
     }
 
-    /** The bytes of a PHC string of these settings whose tag is zero, as no password has it. */
+    /** The bytes of a PHC string of these settings whose tag is zero, so that no password matches. */
     encodeUnknown(settings, inputs) {
         const salt = new Uint8Array(SALT_LENGTH);
         this.checkSettings(settings, { ...inputs, salt });

@@ -78,7 +78,7 @@ export class Line {
     readonly concurrency: number;
     /** How many more may wait. */
     readonly waiting: number;
-    /** Calls a function in its turn, and counts it until it has ended. It makes its calls without the option `line`. */
+    /** Calls a function in its turn, and counts it until it has ended. In it, make calls without the option `line`. */
     run<T>(call: () => T | PromiseLike<T>, options?: { signal?: StopSignal }): Promise<T>;
 }
 
@@ -228,7 +228,10 @@ export function needsRehash(encoded: string, options?: Settings): Promise<boolea
 /** Settings with no field left out. */
 export type Preset = Readonly<Required<Settings>>;
 
-/** Recommended settings, with one lane. OWASP calls its five equally strong; RFC 9106, 4, has four lanes in its two. */
+/**
+ * Recommended settings, with one lane. OWASP calls its five equally strong; RFC 9106 (section 4) recommends its two
+ * with four lanes.
+ */
 export const presets: {
     // presets, by .ci/pages/presets
     /** OWASP's first recommendation: 46 MiB, 1 pass. */

@@ -13,7 +13,7 @@ const MAX_NUMBER = 0xffffffff;
 /** The bytes of a salt that the package draws. */
 export const SALT_LENGTH = 16;
 
-/** The default settings: the ones that OWASP names first. */
+/** The default settings: those of OWASP's second recommendation. */
 export const DEFAULTS = Object.freeze({
     type: argon2id, version: 0x13, memoryCost: 19456, timeCost: 2, parallelism: 1, hashLength: 32,
 });
@@ -77,7 +77,7 @@ export function numberOf(name, value, most = MAX_NUMBER) {
     return value;
 }
 
-/** An option, whose type is checked. `null` counts as a value: mostly one of a wrong type. */
+/** An option, whose type is checked. `null` counts as a value of a wrong type. */
 export function optionOf(name, value, type) {
     if (value !== undefined && typeof value !== type) {
         throw typeError(name, `a ${type}`);

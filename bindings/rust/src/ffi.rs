@@ -231,7 +231,7 @@ pub fn hash_encoded(pwd: &[u8], salt: &[u8], config: &Config<'_>, extras: Extras
     call!(proved_argon2_hash_encoded_with, options, [pwd, salt, config.secret, config.ad], &settings, to, length)
 }
 
-/// Compares a hash with the tag, computed in its length.
+/// Computes a tag as long as the hash, and compares the two.
 pub fn verify_raw(pwd: &[u8], salt: &[u8], hash: &[u8], config: &Config<'_>, extras: Extras<'_, '_>) -> u32 {
     let (options, settings) = (Options::by(config.workers(), extras), Settings::of(config));
     let (with, length) = (hash.as_ptr(), hash.len());

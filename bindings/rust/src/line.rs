@@ -164,7 +164,7 @@ impl State {
         State { process: process::id(), free, next_ticket: 0, queue, kept, is_watched: false }
     }
 
-    /// Takes the buffers that have been idle for this long, and returns the time until the next one has been.
+    /// Takes the buffers that have been idle for this long, and returns the time until the next one is due.
     fn take_idle(&mut self, idle: Duration) -> (Vec<(Memory, Instant)>, Option<Duration>) {
         let age = |since: &Instant| since.elapsed();
         let count = self.kept.iter().take_while(|(_, since)| age(since) >= idle).count();

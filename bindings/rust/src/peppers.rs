@@ -197,7 +197,7 @@ mod tests {
     }
 
     #[test]
-    fn each_call_runs_by_its_run() {
+    fn each_call_uses_the_buffer_and_the_callback_of_its_run() {
         let (peppers, stored) = (Peppers::new(&KEYS, small()).unwrap(), hash_with(b"new"));
         let mut memory = Memory::new();
         let mut run = Run::new().over(&mut memory).with_progress(|_, _| ControlFlow::Break(()));

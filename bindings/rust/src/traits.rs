@@ -13,7 +13,7 @@ const MOST_OF_A_SALT: usize = 64;
 #[derive(Clone, Copy, Debug, Default, Eq, PartialEq)]
 pub struct Params(Option<Config<'static>>);
 
-/// Settings with the costs of others.
+/// The first settings, with the costs of the second.
 fn with_costs<'a>(config: &Config<'a>, costs: &Config<'_>) -> Config<'a> {
     let Config { mem_cost, time_cost, lanes, hash_length, .. } = *costs;
     Config { mem_cost, time_cost, lanes, hash_length, ..*config }

@@ -4,7 +4,7 @@
  */
 #include "proved_argon2.h"
 
-/* How a call computes, of which cgo passes each part: the maximum number of threads; a buffer with its length, or null;
+/* How a call computes. cgo passes these parts: the maximum number of threads; a buffer with its length, or null;
  * whether the call has to compute in this buffer, however short it is; and a number that stops the call once it is not
  * 0, or null. Another thread of Go writes this number while the call runs. */
 #define HOW uint32_t threads, uint8_t *memory, size_t memory_len, int has_buffer, int32_t *stop

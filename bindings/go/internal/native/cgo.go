@@ -90,7 +90,7 @@ func (m *Memory) Free() {
 	*m = Memory{}
 }
 
-// Hash writes the tag to out, or the encoded hash and then zeros, for which out has to be longer than that.
+// Hash writes the tag to out, or the encoded hash and then zeros: out has to be longer than the encoded hash.
 func Hash(how How, in Inputs, s Settings, isEncoded bool, out []byte) uint32 {
 	settings, encoded := s.c(), C.int(0)
 	if isEncoded {

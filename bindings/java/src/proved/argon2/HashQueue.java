@@ -103,7 +103,7 @@ public final class HashQueue implements AutoCloseable {
             if (failure.getCause() instanceof Error error) {
                 throw error;
             }
-            throw new CompletionException(failure.getCause()); // which the call threw: get() has unwrapped it
+            throw new CompletionException(failure.getCause()); // the call threw one, and get() has unwrapped it
         } catch (CancellationException cancelled) {
             if (threads.isShutdown()) {
                 throw new Argon2Exception(Argon2Exception.STOPPED);

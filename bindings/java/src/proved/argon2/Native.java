@@ -100,7 +100,7 @@ final class Native {
         }
     }
 
-    /** Windows keeps what is loaded, until Java ends at the earliest. */
+    /** Windows does not delete a loaded library, so Java tries again when it ends. */
     private static void delete(Path path) {
         if (!path.toFile().delete()) {
             path.toFile().deleteOnExit();

@@ -15,8 +15,8 @@ import java.util.function.Function;
  *
  * <p>Passwords are {@code char[]}, which are hashed as UTF-8, or {@code byte[]}. A call clears each copy that it makes
  * of a password, and leaves the caller's array as it is. It stops with {@link Argon2Exception#STOPPED} soon after its
- * thread is interrupted. A call blocks its thread, and also the carrier of a virtual thread. Make calls by a {@link
- * HashQueue} in virtual threads, and to limit how many hashes are computed at a time.
+ * thread is interrupted. A call blocks its thread, and also the carrier of a virtual thread. Use a {@link
+ * HashQueue} in virtual threads, or to limit how many hashes are computed at a time.
  *
  * <p>Each call may throw an {@link Argon2Exception}. A wrong password is not an exception.
  *
@@ -209,7 +209,7 @@ public class PasswordHasher {
         return number;
     }
 
-    /** Makes a call in the buffer of a queue's thread, until its future is done, or else until it is interrupted. */
+    /** Makes a call until the thread is interrupted; in a queue's thread, in its buffer until the future is done. */
     private static int call(Call call) {
         Thread thread = Thread.currentThread();
         long[] kept = thread instanceof HashQueue.Worker worker ? worker.kept : null;

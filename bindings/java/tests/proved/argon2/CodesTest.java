@@ -34,7 +34,7 @@ class CodesTest {
             .withAssociatedData(HashesTest.bytes("data")).withLimits(new Limits(10, 11, 12, 13));
     }
 
-    /** The value of a call for a number by the table, such as {@code 0=true 64=false}, or else the number's error. */
+    /** Expects the table's value for a number, such as {@code 0=true 64=false}, or else the number's error. */
     private static void compare(String name, int number, Supplier<Object> call) {
         for (String pair : System.getProperty("codes." + name).split(" ")) {
             if (pair.startsWith(number + "=") && !pair.endsWith("=costly")) {
@@ -54,7 +54,7 @@ class CodesTest {
     }
 
     @Test
-    void settings() {
+    void settingsThrowTheNumberOfTheCheck() {
         numbers().filter(number -> number != 0).forEach(number -> compare("hash_encoded", number, () -> {
             set(number, 0, 0);
             return Settings.owasp2();
@@ -62,7 +62,7 @@ class CodesTest {
     }
 
     @Test
-    void hash() {
+    void hashReturnsTextOrThrowsTheNumber() {
         PasswordHasher hasher = hasher();
         numbers().forEach(number -> compare("hash_encoded", number, () -> {
             set(0, number, 0);
@@ -73,7 +73,7 @@ class CodesTest {
     }
 
     @Test
-    void verify() {
+    void verifyReturnsAVerdictOrThrowsTheNumber() {
         PasswordHasher hasher = hasher();
         numbers().filter(number -> number != Native.NEEDS_REHASH).forEach(number ->
             compare("verify_encoded_within", number, () -> {
@@ -87,7 +87,7 @@ class CodesTest {
     }
 
     @Test
-    void verifyUnknown() {
+    void verifyUnknownReturnsFalseOrThrowsTheNumber() {
         PasswordHasher hasher = hasher();
         numbers().forEach(number -> {
             set(0, number, 0);
@@ -101,7 +101,7 @@ class CodesTest {
     }
 
     @Test
-    void needsRehash() {
+    void needsRehashReturnsAnAnswerOrThrowsTheNumber() {
         PasswordHasher hasher = hasher();
         numbers().forEach(number -> compare("needs_rehash", number, () -> {
             set(0, number, 0);

@@ -12,7 +12,7 @@ import org.junit.jupiter.api.AfterEach;
 import org.junit.jupiter.api.Tag;
 import org.junit.jupiter.api.Test;
 
-/** Memory or threads are denied while a file of that name exists; a file {@code once} denies memory once. */
+/** A file {@code memory} or {@code threads} denies that while it exists; a file {@code once} denies memory once. */
 @Tag("denied")
 class DeniedTest {
     private static final Path FOLDER = Path.of(System.getenv().getOrDefault("DENIED", "."));

@@ -343,7 +343,7 @@ class HashQueueTest {
         assertHasBothPlaces();
     }
 
-    /** Also of a direct call, which pins the carrier. Java 17 has no virtual threads. */
+    /** Also if the call is made directly, which pins the carrier. Java 17 has no virtual threads. */
     @Test
     void anInterruptedVirtualThreadStopsItsCall() throws ReflectiveOperationException, InterruptedException {
         for (Supplier<String> call : List.<Supplier<String>>of(ENDLESS, () -> queue.run(ENDLESS))) {

@@ -73,21 +73,21 @@ class HashesTest {
     }
 
     @Test
-    void hashesOfOtherImplementations() throws IOException {
+    void hashesEqualThoseOfOtherImplementations() throws IOException {
         List<String> lines = lines(System.getProperty("vectors") + "/raw.txt");
         assertEquals(240, lines.size());
         lines.forEach(HashesTest::compare);
     }
 
     @Test
-    void randomHashesOfLibargon2() throws IOException {
+    void randomHashesEqualThoseOfLibargon2() throws IOException {
         List<String> lines = lines(System.getProperty("random"));
         assertEquals(800, lines.size());
         lines.forEach(HashesTest::compare);
     }
 
     @Test
-    void encodedHashesOfOtherImplementations() throws IOException {
+    void encodedHashesOfOtherImplementationsAreVerified() throws IOException {
         List<String> lines = lines(System.getProperty("vectors") + "/texts.txt");
         assertEquals(147, lines.size());
         PasswordHasher hasher = new PasswordHasher().withLimits(Limits.NONE);
@@ -106,7 +106,7 @@ class HashesTest {
     /** Spring makes hashes with Bouncy Castle. Both of its sets of default settings are here. */
     @ParameterizedTest
     @CsvSource({"16384, 2, 1", "4096, 3, 1", "256, 1, 4"})
-    void hashesOfSpring(int memory, int passes, int lanes) {
+    void hashesOfSpringAreVerified(int memory, int passes, int lanes) {
         byte[] salt = bytes("somesaltsomesalt");
         byte[] tag = new byte[32];
         Argon2BytesGenerator generator = new Argon2BytesGenerator();

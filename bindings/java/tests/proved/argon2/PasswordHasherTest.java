@@ -33,7 +33,7 @@ class PasswordHasherTest {
     }
 
     @Test
-    void firstCalls() {
+    void aHashVerifiesOnlyItsPassword() {
         String stored = new PasswordHasher().hash("correct horse".toCharArray());
         assertTrue(stored.startsWith("$argon2id$v=19$m=19456,t=2,p=1$"), stored);
         assertTrue(new PasswordHasher().verify(stored, "correct horse".toCharArray()));
@@ -177,7 +177,10 @@ class PasswordHasherTest {
         assertFails(Argon2Exception.TOO_COSTLY, () -> encoder.matches("password", STORED));
     }
 
-    /** A hash of as many slices with the same settings takes as long. An encoded hash of 64 bytes is a long one. */
+    /**
+     * A hash of as many slices with the same settings takes as long. With 64 bytes, the encoded hash is longer than
+     * PROVED_ARGON2_TEXT_SIZE.
+     */
     @ParameterizedTest
     @ValueSource(ints = {4, 32, 64, 1000})
     void anUnknownUserCostsAsMuchAsAKnownOne(int hashLength) {
