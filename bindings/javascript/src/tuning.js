@@ -29,7 +29,8 @@ export async function fittingCosts(milliseconds, memoryCost, measure) {
             return withPasses(milliseconds, { memory, passes, took }, measure);
         }
     }
-    throw new RangeError(`no settings for passwords within ${memoryCost} KiB take at most ${milliseconds} milliseconds here`);
+    const limits = `within ${memoryCost} KiB take at most ${milliseconds} milliseconds`;
+    throw new RangeError(`no settings for passwords ${limits} here`);
 }
 
 /** Raises the passes as far as the time allows. */

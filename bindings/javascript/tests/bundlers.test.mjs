@@ -99,7 +99,7 @@ for (const [what, program, command, where] of MADE) {
 
 test('the files are as large as the page says', () => {
     const page = readFileSync(join(process.env.PAGE, '../JAVASCRIPT.md'), 'utf8').replace(/\s+/g, ' ');
-    const [, ...stated] = page.match(/one file, of (\d+) KB \((\d+) KB by gzip\).* module only, of (\d+) KB by gzip/);
+    const [, ...stated] = page.match(/This file, of (\d+) KB \((\d+) KB gzipped\).* module only, of (\d+) KB by gzip/);
     const [single, module] = ['inline.js', 'proved_argon2.wasm'].map((name) => readFileSync(join(sources, name)));
     const sizes = [single, gzipSync(single), gzipSync(module)].map((bytes) => bytes.length / 1000);
     for (const [i, size] of sizes.entries()) {

@@ -205,7 +205,8 @@ test('tune chooses as much memory as the time allows, and then passes', async ()
             const { memory, passes } = await found;
             assert.deepEqual([memory, passes], expected, row);
         } else {
-            await assert.rejects(found, new RegExp(`^RangeError: .* ${most} KiB take at most ${milliseconds} milliseconds`));
+            const limits = `${most} KiB take at most ${milliseconds} milliseconds`;
+            await assert.rejects(found, new RegExp(`^RangeError: .* ${limits}`));
         }
     }
 });
