@@ -95,7 +95,7 @@ LABELS = {label: holds for patterns, *holds in (
     ('needs_{rehash,no_rehash}', 0, lambda of: of.own == of.decode_string),
     ('head_faults a_text_within_limits_is_judged a_costly_text_of_any_length_allocates_nothing '
      '{hashing,verifying_a_tag,verifying_an_empty_tag}_allocates_nothing '
-     '{an_unspelled,a_refused,a_costly}_text_allocates_nothing', 0, lambda of: of.own == 0),
+     '{a_string_of_no_hash,a_rejected_string,a_costly_text}_allocates_nothing', 0, lambda of: of.own == 0),
     # Runs of the program, of 2 passes. An invalid encoded hash and one above the limits start nothing, and request
     # memory about equally often.
     ('program_hash_by_workers', 4 * 2 * 2, lambda of: of.own > of.program_hash_in_one_thread + 16),
