@@ -209,7 +209,7 @@ def test_the_manual_and_the_help_have_the_same_forms():
 def test_the_script_does_what_the_manual_says_alone():
     said = {word: piped([word], command=[TOOL])[2] for word in ("new", "check", "tune", "hash", "verify", "rehash")}
     (unknown,) = [word for word, text in said.items() if b"there is no command" in text]
-    assert f"It measures for {unknown} itself, and passes all other commands on" in " ".join(
+    assert f"It executes {unknown} itself, and passes all other commands on" in " ".join(
         plain(part(1, "DESCRIPTION")).split())
 
 
