@@ -153,7 +153,8 @@ def added_to_both(words, one, other, table):
     return tuple(x ^ y ^ z for x, y, z in zip(words, one, other))
 
 
-# What instructions make of the operands that they read. Those of ONTO also read the first one, which they write.
+# How each instruction computes its result from the operands that it reads. Those of ONTO also read the first operand,
+# which they write.
 UNALIGNED = 'movups', 'movupd', 'movdqu', 'movdqu32', 'movdqu64'
 MOVES = 'movaps', 'movapd', 'movdqa', 'movdqa32', 'movdqa64', *UNALIGNED
 XOR = dict.fromkeys(('pxor', 'pxord', 'pxorq', 'xorps', 'xorpd'), each(lambda x, y: x ^ y))
