@@ -1,11 +1,6 @@
 package argon2
 
-import (
-	"errors"
-	"strings"
-
-	"vemkuorl.example/proved-argon2/argon2/internal/native"
-)
+import "errors"
 
 // Error is the number of an error of the library. The constants below are values for [errors.Is]. A wrong password is
 // no error.
@@ -45,31 +40,10 @@ const (
 var (
 	// ErrBusy means that as many callers compute and wait as the [Hasher] allows: answer with HTTP status 503.
 	ErrBusy = errors.New("argon2: too many hashes are computed at a time")
-
 	// ErrUnknownPepper means that no pepper has the ID of a stored hash.
 	ErrUnknownPepper = errors.New("argon2: there is no pepper with this ID")
-
 	// ErrInvalidPeppers means that there is no pepper, an ID or a key is empty, or two peppers have the same ID.
 	ErrInvalidPeppers = errors.New("argon2: no pepper, an empty ID or key, or two peppers with the same ID")
-
 	// ErrTooSlow means that even the least settings for passwords take longer than [Tune] allows.
 	ErrTooSlow = errors.New("argon2: a hash with the least settings takes longer")
 )
-
-// Error returns the message of the error.
-func (e Error) Error() string {
-	message := native.Message(uint32(e))
-	return "argon2: " + strings.ToLower(message[:1]) + message[1:]
-}
-
-// errorOf returns the error of a number that the library returned. A string with a byte above 127 is no encoded hash,
-// like any other that cannot be decoded.
-func errorOf(number uint32) error {
-	switch number {
-	case native.OK:
-		return nil
-	case native.NotASCII:
-		return ErrDecodingFail
-	}
-	return Error(number)
-}

@@ -29,41 +29,33 @@ func ExampleIDKey() {
 }
 
 func ExampleHasher() {
+	stored := "$argon2id$v=19$m=7168,t=5,p=1$QCHX93qQXtrJgS3rTVrVbw$CElVoNDzqedjgISYI9h4nVD0rsiS7aV1SXkE32c75gI"
 	hasher := argon2.NewHasher(argon2.OWASP2(), 2, 64) // two at a time, and 64 wait
-	encoded, err := argon2.Hash([]byte("correct horse"), argon2.OWASP5())
-	if err != nil {
-		panic(err)
-	}
 	ctx, cancel := context.WithTimeout(context.Background(), time.Minute)
 	defer cancel()
-	matches, updated, err := hasher.VerifyAndUpdate(ctx, encoded, []byte("correct horse"))
+	matches, updated, err := hasher.VerifyAndUpdate(ctx, stored, []byte("correct horse"))
 	fmt.Println(matches, updated != "", err)
 	cancel()
-	_, err = hasher.VerifyUnknown(ctx, []byte("correct horse"))
-	fmt.Println(errors.Is(err, context.Canceled))
+	fmt.Println(hasher.VerifyUnknown(ctx, []byte("correct horse")))
 	// Output:
 	// true true <nil>
-	// true
+	// false context canceled
 }
 
 func ExamplePeppers() {
-	hasher, ctx := argon2.NewHasher(argon2.OWASP5(), 1, 16), context.Background()
-	old := argon2.Pepper{ID: "2025", Key: []byte("old key")}
-	peppers, err := argon2.NewPeppers(hasher, old)
+	stored := argon2.Stored{
+		PepperID: "2025",
+		Encoded:  "$argon2id$v=19$m=7168,t=5,p=1$XFp1Mkqf7MSpiUbZ2Xrhaw$wONd9kNFUla5QhuMuvIaClFh1tuxhQ8kv34GfQuqlEs",
+	}
+	peppers, err := argon2.NewPeppers(argon2.NewHasher(argon2.OWASP5(), 1, 16),
+		argon2.Pepper{ID: "2026", Key: []byte("new key")}, argon2.Pepper{ID: "2025", Key: []byte("old key")})
 	if err != nil {
 		panic(err)
 	}
-	stored, err := peppers.Hash(ctx, []byte("correct horse"))
-	if err != nil {
-		panic(err)
-	}
-	both, err := argon2.NewPeppers(hasher, argon2.Pepper{ID: "2026", Key: []byte("new key")}, old)
-	if err != nil {
-		panic(err)
-	}
-	matches, updated, err := both.VerifyAndUpdate(ctx, stored, []byte("correct horse"))
+	matches, updated, err := peppers.VerifyAndUpdate(context.Background(), stored, []byte("correct horse"))
 	fmt.Println(matches, updated.PepperID, err)
-	_, _, err = both.VerifyAndUpdate(ctx, argon2.Stored{PepperID: "", Encoded: stored.Encoded}, []byte("correct horse"))
+	stored.PepperID = ""
+	_, _, err = peppers.VerifyAndUpdate(context.Background(), stored, []byte("correct horse"))
 	fmt.Println(errors.Is(err, argon2.ErrUnknownPepper))
 	// Output:
 	// true 2026 <nil>

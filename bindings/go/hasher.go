@@ -6,9 +6,8 @@ import (
 	"io"
 	"math"
 	"sync"
+	"sync/atomic"
 	"time"
-
-	"vemkuorl.example/proved-argon2/argon2/internal/native"
 )
 
 // idle is how long a buffer that no call uses is kept.
@@ -17,14 +16,14 @@ const idle = 10 * time.Second
 // Hasher limits how many hashes are computed at a time, and how many callers wait for that. Make one for the whole
 // service. Its methods can be called by any goroutines.
 //
-// A caller waits in a queue for its turn. If its context ends, it leaves the queue, or its hash stops after the slice
-// that is being filled, a quarter of a pass; the method returns the error of the context. If no more callers may wait,
+// A caller waits in a queue for its turn. If its context ends, it leaves the queue, or its hash stops after the
+// current slice (a quarter of a pass), and the method returns the error of the context. If no more callers may wait,
 // the method returns [ErrBusy] at once.
 //
 // # Threads
 //
-// Each of the hashes that are computed at a time occupies one operating-system thread of Go, and one more thread for
-// each lane above the first (at most 15 if it verifies), up to Settings.Threads. Callers that wait occupy none.
+// Each running hash occupies one operating-system thread of Go, and one more for each further lane (at most 15 if it
+// verifies), up to Settings.Threads in all. Callers that wait occupy none.
 //
 // # Buffers
 //
@@ -38,22 +37,16 @@ type Hasher struct {
 	limits   Limits
 }
 
-// NewHasher returns a Hasher that computes concurrency hashes at a time, at least one; waiting is how many more callers
+// NewHasher returns a Hasher computing up to concurrency hashes at a time (at least one); up to waiting more callers
 // may wait. Its limits are [LimitsFor] the settings. It does not copy Settings.Secret and Settings.Data: do not change
 // their bytes while the Hasher is used.
 func NewHasher(settings Settings, concurrency, waiting int) *Hasher {
-	if concurrency < 1 {
-		concurrency = 1
+	concurrency = highest(concurrency, 1)
+	callers := concurrency + highest(waiting, 0)
+	if callers < 0 { // the sum overflowed
+		callers = math.MaxInt
 	}
-	if waiting < 0 {
-		waiting = 0
-	}
-	if waiting > math.MaxInt-concurrency {
-		waiting = math.MaxInt - concurrency
-	}
-	queue := &queue{
-		callers: make(chan struct{}, concurrency+waiting), places: make(chan struct{}, concurrency), idle: idle,
-	}
+	queue := &queue{callers: make(chan struct{}, callers), places: make(chan struct{}, concurrency), idle: idle}
 	return &Hasher{queue, settings, LimitsFor(settings)}
 }
 
@@ -68,78 +61,65 @@ func (h *Hasher) Within(limits Limits) *Hasher { return &Hasher{h.queue, h.setti
 
 // Hash is [Hash] with the settings of the Hasher.
 func (h *Hasher) Hash(ctx context.Context, password []byte) (encoded string, err error) {
-	err = h.run(ctx, func(r run) error {
-		encoded, err = r.hash(password, h.settings)
-		return err
-	})
-	return encoded, err
+	return enqueue(ctx, h, func(r run) (string, error) { return r.hash(password) })
 }
 
 // Verify is [Verify] with the secret, the data and the limits of the Hasher.
 func (h *Hasher) Verify(ctx context.Context, encoded string, password []byte) (matches bool, err error) {
-	err = h.run(ctx, func(r run) error {
-		matches, err = r.verify(encoded, password, h.settings, h.limits)
-		return err
-	})
-	return matches, err
+	return enqueue(ctx, h, func(r run) (bool, error) { return r.verify(encoded, password) })
 }
 
 // VerifyAndUpdate is [VerifyAndUpdate] with the settings and the limits of the Hasher. If the context ends while the
 // new hash is computed, the password matches all the same, and updated is empty.
 func (h *Hasher) VerifyAndUpdate(ctx context.Context, encoded string, password []byte) (
 	matches bool, updated string, err error) {
-	return h.verifyAndUpdate(ctx, encoded, password, h.settings, false)
+	return h.verifyAndUpdate(ctx, encoded, password, h.settings.Secret, false)
 }
 
-// verifyAndUpdate verifies with the secret of the old settings, and renews a hash that isOld.
-func (h *Hasher) verifyAndUpdate(ctx context.Context, encoded string, password []byte, old Settings, isOld bool) (
+func (h *Hasher) verifyAndUpdate(ctx context.Context, encoded string, password, secret []byte, isOld bool) (
 	matches bool, updated string, err error) {
-	err = h.run(ctx, func(r run) error {
-		matches, updated, err = r.verifyAndUpdate(encoded, password, old, h.settings, isOld, h.limits)
-		return err
+	matches, err = enqueue(ctx, h, func(r run) (bool, error) {
+		matches, updated, err = r.verifyAndUpdate(encoded, password, secret, isOld)
+		return matches, err
 	})
 	return matches, updated, err
 }
 
 // VerifyUnknown is [VerifyUnknown] with the settings of the Hasher.
 func (h *Hasher) VerifyUnknown(ctx context.Context, password []byte) (matches bool, err error) {
-	err = h.run(ctx, func(r run) error {
-		_, err = r.verifyUnknown(password, h.settings)
-		return err
-	})
-	return false, err
+	return enqueue(ctx, h, func(r run) (bool, error) { return r.verifyUnknown(password) })
 }
 
-// Format prints the settings of the Hasher without the secret, whether or not it is a pointer.
+// Format prints the settings without the secret, for a Hasher and for a pointer to one.
 func (h Hasher) Format(state fmt.State, verb rune) {
 	io.WriteString(state, "argon2.Hasher")
 	h.settings.Format(state, verb)
 }
 
-// run makes calls in a place of the queue, until the context ends.
-func (h *Hasher) run(ctx context.Context, call func(run) error) error {
-	memory, err := h.queue.enter(ctx)
+// enqueue makes a call in a place of the queue, until the context ends.
+func enqueue[T any](ctx context.Context, h *Hasher, call func(run) (T, error)) (value T, err error) {
+	buffer, err := h.queue.enter(ctx)
 	if err != nil {
-		return err
+		return value, err
 	}
-	defer h.queue.leave(memory)
-	stop := new(native.Stop)
+	defer h.queue.leave(buffer)
+	stop := new(int32)
 	if ctx.Done() != nil {
 		returned := make(chan struct{})
 		defer close(returned)
 		go func() {
 			select {
 			case <-ctx.Done():
-				stop.Now()
+				atomic.StoreInt32(stop, 1)
 			case <-returned:
 			}
 		}()
 	}
-	err = call(run{memory, stop, h.settings.native()})
-	if err == Error(native.Stopped) && ctx.Err() != nil {
-		return ctx.Err()
+	value, err = call(run{h.settings, h.limits, buffer, stop})
+	if err == stopped && ctx.Err() != nil {
+		err = ctx.Err()
 	}
-	return err
+	return value, err
 }
 
 // queue is what Hashers share: places to compute in, and the buffers that no place uses.
@@ -149,17 +129,18 @@ type queue struct {
 	idle    time.Duration
 
 	mutex     sync.Mutex
-	kept      []kept // the oldest first
-	isWatched bool   // whether a timer frees what is kept
+	kept      []*buffer // the oldest first
+	isWatched bool      // whether a timer frees what is kept
 }
 
-type kept struct {
-	memory *native.Memory
-	since  time.Time
+// buffer is memory that the library allocated, or none. It is used for one call at a time, which clears it.
+type buffer struct {
+	memory []byte
+	since  time.Time // when the last call returned
 }
 
 // enter takes a place, and a buffer that is kept or an empty one.
-func (q *queue) enter(ctx context.Context) (*native.Memory, error) {
+func (q *queue) enter(ctx context.Context) (*buffer, error) {
 	if err := ctx.Err(); err != nil {
 		return nil, err
 	}
@@ -178,18 +159,19 @@ func (q *queue) enter(ctx context.Context) (*native.Memory, error) {
 	defer q.mutex.Unlock()
 	last := len(q.kept) - 1
 	if last < 0 {
-		return new(native.Memory), nil
+		return new(buffer), nil
 	}
-	memory := q.kept[last].memory
+	newest := q.kept[last]
 	q.kept = q.kept[:last]
-	return memory, nil
+	return newest, nil
 }
 
 // leave keeps the buffer, and then frees the place: there are no more buffers than places.
-func (q *queue) leave(memory *native.Memory) {
+func (q *queue) leave(b *buffer) {
 	q.mutex.Lock()
-	if memory.Length > 0 {
-		q.kept = append(q.kept, kept{memory, time.Now()})
+	if len(b.memory) > 0 {
+		b.since = time.Now()
+		q.kept = append(q.kept, b)
 		if !q.isWatched {
 			q.isWatched = true
 			time.AfterFunc(q.idle, q.freeIdle)
@@ -200,12 +182,12 @@ func (q *queue) leave(memory *native.Memory) {
 	<-q.callers
 }
 
-// freeIdle frees the buffers that have been idle for long enough, and looks again when the next one may be.
+// freeIdle frees the buffers that have been idle for long enough, and runs again when the next one is due.
 func (q *queue) freeIdle() {
 	q.mutex.Lock()
 	defer q.mutex.Unlock()
 	for len(q.kept) > 0 && time.Since(q.kept[0].since) >= q.idle {
-		q.kept[0].memory.Free()
+		q.kept[0].free()
 		q.kept = q.kept[1:]
 	}
 	q.isWatched = len(q.kept) > 0

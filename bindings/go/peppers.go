@@ -23,13 +23,12 @@ type Stored struct {
 
 // Peppers hash with the newest pepper, and verify with the one that the stored hash names. See [NewPeppers].
 type Peppers struct {
-	hasher            *Hasher
-	peppers           []Pepper
-	acceptsUnpeppered bool
+	hasher  *Hasher // has the newest pepper
+	peppers []Pepper
 }
 
-// NewPeppers returns peppers, the newest first, which compute in the queue of a Hasher, with its settings and limits;
-// the secret of the settings has no effect. It copies the keys, so you can clear yours. It returns [ErrInvalidPeppers]
+// NewPeppers takes peppers, the newest first, and returns Peppers that use a Hasher's queue, settings and limits; the
+// secret of the settings has no effect. It copies the keys, so you can clear yours. It returns [ErrInvalidPeppers]
 // if there is no pepper, an ID or a key is empty, or two peppers have the same ID.
 //
 // To change the pepper, put a new one first and keep the old ones. [Peppers.VerifyAndUpdate] renews a hash at the
@@ -46,17 +45,21 @@ func NewPeppers(hasher *Hasher, peppers ...Pepper) (*Peppers, error) {
 	if len(peppers) == 0 {
 		return nil, ErrInvalidPeppers
 	}
-	return &Peppers{hasher: hasher, peppers: own}, nil
+	newest := *hasher
+	newest.settings.Secret = own[0].Key
+	return &Peppers{&newest, own}, nil
 }
 
 // AcceptUnpeppered returns the same peppers, which also verify hashes without a pepper, whose ID is empty, and renew
 // them with the newest one. Use it only while you move such hashes: whoever can write to the store can add a hash that
 // needs no key.
-func (p *Peppers) AcceptUnpeppered() *Peppers { return &Peppers{p.hasher, p.peppers, true} }
+func (p *Peppers) AcceptUnpeppered() *Peppers {
+	return &Peppers{p.hasher, append(append([]Pepper(nil), p.peppers...), Pepper{})}
+}
 
 // Hash hashes a password with the newest pepper.
 func (p *Peppers) Hash(ctx context.Context, password []byte) (Stored, error) {
-	encoded, err := p.newest().Hash(ctx, password)
+	encoded, err := p.hasher.Hash(ctx, password)
 	if err != nil {
 		return Stored{}, err
 	}
@@ -68,44 +71,22 @@ func (p *Peppers) Hash(ctx context.Context, password []byte) (Stored, error) {
 // no pepper has the ID, the error is [ErrUnknownPepper], also for an empty ID without [Peppers.AcceptUnpeppered].
 func (p *Peppers) VerifyAndUpdate(ctx context.Context, stored Stored, password []byte) (
 	matches bool, updated *Stored, err error) {
-	old, err := p.settingsOf(stored.PepperID)
-	if err != nil {
-		return false, nil, err
+	for i, pepper := range p.peppers {
+		if pepper.ID == stored.PepperID {
+			matches, encoded, err := p.hasher.verifyAndUpdate(ctx, stored.Encoded, password, pepper.Key, i > 0)
+			if encoded != "" {
+				updated = &Stored{p.peppers[0].ID, encoded}
+			}
+			return matches, updated, err
+		}
 	}
-	newest := p.peppers[0].ID
-	matches, encoded, err := p.newest().verifyAndUpdate(ctx, stored.Encoded, password, old, stored.PepperID != newest)
-	if encoded != "" {
-		updated = &Stored{newest, encoded}
-	}
-	return matches, updated, err
+	return false, nil, ErrUnknownPepper
 }
 
 // VerifyUnknown is [VerifyUnknown] with the settings of the Hasher.
 func (p *Peppers) VerifyUnknown(ctx context.Context, password []byte) (matches bool, err error) {
-	return p.newest().VerifyUnknown(ctx, password)
+	return p.hasher.VerifyUnknown(ctx, password)
 }
 
 // Format prints the IDs, and no key.
 func (p Peppers) Format(state fmt.State, _ rune) { fmt.Fprintf(state, "argon2.Peppers%v", p.peppers) }
-
-// newest returns the Hasher with the newest pepper.
-func (p *Peppers) newest() *Hasher { return p.with(p.peppers[0].Key) }
-
-func (p *Peppers) with(key []byte) *Hasher {
-	settings := p.hasher.settings
-	settings.Secret = key
-	return &Hasher{p.hasher.queue, settings, p.hasher.limits}
-}
-
-// settingsOf returns the settings with the pepper of an ID.
-func (p *Peppers) settingsOf(id string) (Settings, error) {
-	if id == "" && p.acceptsUnpeppered {
-		return p.with(nil).settings, nil
-	}
-	for _, pepper := range p.peppers {
-		if pepper.ID == id {
-			return p.with(pepper.Key).settings, nil
-		}
-	}
-	return Settings{}, ErrUnknownPepper
-}

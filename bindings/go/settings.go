@@ -1,10 +1,6 @@
 package argon2
 
-import (
-	"fmt"
-
-	"vemkuorl.example/proved-argon2/argon2/internal/native"
-)
+import "fmt"
 
 // The versions of Argon2. Choose Version, which is that of RFC 9106.
 const (
@@ -29,15 +25,15 @@ type Settings struct {
 	Memory     uint32 // in KiB
 	Time       uint32 // the passes over the memory
 	Lanes      uint32 // the degree of parallelism, which a hash depends on
-	Threads    uint32 // the most threads that fill the lanes; 0 means one for each lane; at most 16 verify
+	Threads    uint32 // the most threads to fill the lanes; 0 means one per lane; verifying uses at most 16
 	SaltLength uint32 // in bytes
 	HashLength uint32 // in bytes
 	Secret     []byte `json:"-"` // a pepper, or nil; it is not copied
 	Data       []byte // associated data, or nil
 }
 
-// The recommended settings are Argon2id with one lane, a salt of 16 bytes and a hash of 32. RFC 9106 recommends four
-// lanes for its two: set Lanes.
+// The recommended settings are Argon2id with one lane, a 16-byte salt and a 32-byte hash. For its two settings, RFC
+// 9106 recommends four lanes: set Lanes.
 
 // presets, by .ci/pages/presets
 
@@ -75,38 +71,33 @@ func (s Settings) Format(state fmt.State, _ rune) {
 		s.Variant, s.Version, s.Memory, s.Time, s.Lanes, s.Threads, s.SaltLength, s.HashLength)
 }
 
-func (s Settings) native() native.Settings {
-	return native.Settings{
-		Variant: uint32(s.Variant), Version: s.Version, Memory: s.Memory, Time: s.Time, Lanes: s.Lanes,
-		HashLength: s.HashLength,
-	}
-}
-
-func (s Settings) threads() uint32 {
-	if s.Threads == 0 {
-		return s.Lanes
+// threads returns how many threads may fill the lanes: no more than most, and that many if the settings name none.
+func (s Settings) threads(most uint32) uint32 {
+	if s.Threads == 0 || s.Threads > most {
+		return most
 	}
 	return s.Threads
 }
 
-// verifyingThreads returns the most threads that verify a hash, which may have more lanes than the settings.
-func (s Settings) verifyingThreads() uint32 {
-	if s.Threads == 0 || s.Threads > native.MaxVerifyingThreads {
-		return native.MaxVerifyingThreads
-	}
-	return s.Threads
+// Limits are the highest memory, passes and lanes that an encoded hash may name, and the highest product of memory and
+// passes. A hash above a limit is not computed: [ErrTooCostly].
+type Limits struct {
+	Memory uint32 // in KiB
+	Time   uint32
+	Lanes  uint32
+	Work   uint64 // the memory in KiB times the passes, which the time is proportional to
 }
 
-// NeedsRehash returns whether an encoded hash was made with another variant, version, memory, time, number of lanes, or
-// length of the salt or the hash. Call it after the password has matched.
-func NeedsRehash(encoded string, settings Settings) (bool, error) {
-	number := native.NeedsRehash(encoded, settings.native())
-	if number == native.NeedsNew {
-		return true, nil
+// LimitsFor returns the default limits, each raised to that of the settings if that is higher.
+func LimitsFor(settings Settings) Limits {
+	limits, work := DefaultLimits(), uint64(settings.Memory)*uint64(settings.Time)
+	return Limits{highest(limits.Memory, settings.Memory), highest(limits.Time, settings.Time),
+		highest(limits.Lanes, settings.Lanes), highest(limits.Work, work)}
+}
+
+func highest[N int | uint32 | uint64](one, other N) N {
+	if one < other {
+		return other
 	}
-	if err := errorOf(number); err != nil {
-		return false, err
-	}
-	_, saltLength, number := native.Read(encoded)
-	return saltLength != settings.SaltLength, errorOf(number)
+	return one
 }

@@ -2,6 +2,7 @@ package argon2
 
 import (
 	"context"
+	"math"
 	"time"
 )
 
@@ -12,7 +13,7 @@ const (
 	leastWork   = 5 * leastMemory
 )
 
-// rounds is how many hashes are measured, of which the least time counts.
+// rounds is how many hashes are measured; the least time counts.
 const rounds = 3
 
 // Tuning are settings that [Tune] found, and the time of a hash with them.
@@ -21,33 +22,24 @@ type Tuning struct {
 	Time     time.Duration
 }
 
-// Tune finds the strongest settings whose hash takes no longer than the argument within on this machine: as much memory
-// as possible, up to most.Memory, and then as many passes as possible, within [DefaultLimits]. The other settings are
+// Tune finds strong settings whose hash on this machine takes no longer than within: most.Memory,
+// halved until a hash fits, and then as many passes as possible, within [DefaultLimits]. The other settings are
 // those of most. If even the least settings for passwords take longer, it returns [ErrTooSlow]. Hashes take longer on a
 // busy machine.
 func Tune(ctx context.Context, within time.Duration, most Settings) (Tuning, error) {
 	hasher := NewHasher(most, 1, 0)
-	return tune(within, most, func(s Settings) (time.Duration, error) {
-		return hasher.measure(ctx, s)
+	return tune(within, most, func(s Settings) (least time.Duration, err error) {
+		for round := 0; round < rounds && err == nil; round++ {
+			begun := time.Now()
+			_, err = enqueue(ctx, hasher, func(r run) ([]byte, error) {
+				return run{settings: s, stop: r.stop}.compute(nil, make([]byte, s.SaltLength), false)
+			})
+			if took := time.Since(begun); round == 0 || took < least {
+				least = took
+			}
+		}
+		return least, err
 	})
-}
-
-// measure returns the time that a hash takes, the least of a few.
-func (h *Hasher) measure(ctx context.Context, s Settings) (least time.Duration, err error) {
-	for round := 0; round < rounds; round++ {
-		begun := time.Now()
-		err := h.run(ctx, func(r run) error {
-			_, err := run{stop: r.stop}.hashRaw(nil, make([]byte, s.SaltLength), s)
-			return err
-		})
-		if err != nil {
-			return 0, err
-		}
-		if took := time.Since(begun); round == 0 || took < least {
-			least = took
-		}
-	}
-	return least, nil
 }
 
 func tune(within time.Duration, s Settings, measure func(Settings) (time.Duration, error)) (Tuning, error) {
@@ -66,16 +58,10 @@ func tune(within time.Duration, s Settings, measure func(Settings) (time.Duratio
 
 // withPasses adds as many passes as there is time for.
 func withPasses(within time.Duration, least Tuning, measure func(Settings) (time.Duration, error)) (Tuning, error) {
-	limits := DefaultLimits()
-	most := limits.Work / uint64(least.Settings.Memory)
-	byTime := float64(least.Settings.Time) * float64(within) / float64(least.Time)
-	for _, other := range []float64{float64(limits.Time), byTime} {
-		if other < float64(most) {
-			most = uint64(other)
-		}
-	}
-	for s := least.Settings; most > uint64(least.Settings.Time); most-- {
-		s.Time = uint32(most)
+	limits, s := DefaultLimits(), least.Settings
+	byWork := float64(limits.Work / uint64(s.Memory))
+	byTime := float64(s.Time) * float64(within) / math.Max(float64(least.Time), 1)
+	for s.Time = uint32(math.Min(math.Min(byWork, byTime), float64(limits.Time))); s.Time > least.Settings.Time; s.Time-- {
 		took, err := measure(s)
 		if err != nil {
 			return Tuning{}, err

@@ -1,6 +1,6 @@
-"""Makes the packages, here and elsewhere as another user, and inspects each. With each alone, without the toolchain and
-this repository, the first lines of the pages run (debian/tests), and its removal leaves nothing. Fresh systems of other
-years install, and switch to the replacement of libargon2 and back."""
+"""Makes the packages, here and elsewhere as another user, and inspects each. Each alone, without the toolchain and
+this repository, runs the first lines of the pages (debian/tests), and its removal leaves nothing. Fresh systems of
+other releases install them, and switch to our libargon2 and back."""
 
 import os
 import re
@@ -13,7 +13,7 @@ from machines import machines
 from running import CRATES_OF_DEBIAN, TOP, VERSION, first_lines, in_namespace, needs, project, run, start
 
 PROJECT = dict(re.findall(r'^(\w+): (.+)$', (TOP / 'PROJECT').read_text(encoding='utf-8'), re.M))
-DEBS = {  # what each asks for, and the page that it has beside those of all
+DEBS = {  # what each requires, and the page that it has besides the common ones
     'libproved-argon2-1': ('libc6 (>= 2.34)', ''), 'proved-argon2': ('libc6 (>= 2.34)', 'docs/SHELL.md'),
     'libproved-argon2-dev': (f'libproved-argon2-1 (= {VERSION}-1)', 'docs/C.md'),
     'proved-libargon2-1': ('libc6 (>= 2.34)', 'docs/LIBARGON2.md'),
@@ -22,7 +22,7 @@ DEBS = {  # what each asks for, and the page that it has beside those of all
 ASKS = {f'{name}_{VERSION}-1_{of}.deb': what for name, what in DEBS.items() for of in ('amd64', 'arm64')}
 ASKS[f'python3-proved-argon2_{VERSION}-1_all.deb'] = (
     f'python3:any, libproved-argon2-1 (= {VERSION}-1)', 'docs/PYTHON.md')
-# What a package tells dpkg or has it run as root, beside the files `control` and `md5sums`: the lines, or the script
+# What dpkg is told, or runs as root, for a package, beside the files `control` and `md5sums`: the lines, or the script
 # that dh_python3 makes of this text of Debian's.
 TOLD = {
     'libproved-argon2-1': {'shlibs': f'libproved_argon2 1 libproved-argon2-1 (>= {VERSION})'},
@@ -107,7 +107,7 @@ def test_lintian_finds_nothing(packages):
 
 @pytest.mark.parametrize('name', NAMES)
 def test_each_file_belongs_to_root_and_has_its_mode(packages, name):
-    """No archive has an entry for a folder that is not ours, which would change that of the system."""
+    """No archive has an entry for a folder that is not ours: unpacking would change the system's folder."""
     found = ENTRY.findall(run(*LISTS.get(Path(name).suffix, ['tar', '-tvf']), packages / name))
     wrong = [(mode, owner, path) for kind, mode, owner, path in found if owner not in ('root/root', '0/0', '2.0')
              or mode != ('rwxrwxrwx' if kind == 'l' else
@@ -175,7 +175,7 @@ def lines_of(text):
 
 
 @pytest.mark.parametrize('name', ASKS)
-def test_a_package_for_debian_tells_dpkg_and_runs_as_root_nothing_else(packages, tmp_path, name):
+def test_a_package_for_debian_tells_dpkg_nothing_else_and_runs_nothing_else_as_root(packages, tmp_path, name):
     package = name.partition('_')[0]
     run('dpkg-deb', '--control', packages / name, tmp_path)
     told = {file.name: read(file) for file in tmp_path.iterdir() if file.name not in {'control', 'md5sums'}}
@@ -235,7 +235,7 @@ FROM = {
         if cargo run --offline --quiet 2>said; then exit 1; fi; grep 'the crate is not whole' said''',
     'go': '''unzip -q ./*.zip; cd go; export GOFLAGS=-mod=mod GOPROXY=off HOME=$scratch
         [[ $(go run .) == $'true <nil>\\nfalse <nil>' && $(PROVED_ARGON2_CPU=x86-64-v2 go run .) == true* ]]
-        rm ../*/*/argon2@*/internal/native/*_linux_amd64.a
+        rm ../*/*/argon2@*/*_linux_amd64.a
         if go run . 2>said; then exit 1; fi; grep 'libproved_argon2_linux_amd64.a' said''',
     'javascript': '''cd "$scratch"; npm=(--offline --no-audit --no-fund --cache "$scratch/cache")
         npm install "${npm[@]}" /packages/*.tgz; [[ $(ls node_modules) == proved-argon2 ]]

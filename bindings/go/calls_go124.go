@@ -1,16 +1,15 @@
 //go:build go1.24 && ((linux && (amd64 || arm64)) || (windows && amd64))
 
-package native
+package argon2
 
 // The library calls no function of Go, and keeps no pointer. So the arguments need not escape to Go's heap.
 
 // #cgo noescape go_argon2_hash
-// #cgo noescape go_argon2_verify
-// #cgo noescape go_argon2_needs_rehash
-// #cgo noescape go_argon2_read
 // #cgo nocallback go_argon2_hash
+// #cgo noescape go_argon2_verify
 // #cgo nocallback go_argon2_verify
-// #cgo nocallback go_argon2_needs_rehash
-// #cgo nocallback go_argon2_read
-// #include "calls.h"
+// #cgo noescape proved_argon2_needs_rehash
+// #cgo nocallback proved_argon2_needs_rehash
+// #cgo noescape proved_argon2_read
+// #cgo nocallback proved_argon2_read
 import "C"

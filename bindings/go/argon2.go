@@ -1,0 +1,135 @@
+// Package argon2 hashes and verifies passwords with Argon2 (RFC 9106). Proved code computes the hashes, except the
+// compression on AVX-512 and ARM64, which is checked by a tool. The C driver and this package are tested. The package
+// contains the library: a program needs only cgo and a C compiler.
+//
+// A service makes one [Hasher], which limits how many hashes are computed at a time. Programs that need no such limit
+// call [Hash], [Verify] and [VerifyAndUpdate]. [IDKey] and [Key] have the signatures of
+// golang.org/x/crypto/argon2.
+//
+// # Memory
+//
+// The package makes no copy of a password, a secret or associated data, except that [NewPeppers] copies its keys. The
+// library clears the memory of a hash before a call returns.
+//
+// # Threads
+//
+// A call of C occupies an operating-system thread until it returns, and the library starts a thread for each further
+// lane. [Hasher] says how many these are.
+package argon2
+
+import (
+	"crypto/rand"
+	"fmt"
+)
+
+// Hash hashes a password with a new random salt, and returns the encoded hash (PHC string), which you store.
+func Hash(password []byte, settings Settings) (encoded string, err error) {
+	return run{settings: settings}.hash(password)
+}
+
+// HashRaw returns the tag (raw hash) of settings.HashLength bytes, for example to derive a key. The salt is used as it
+// is, whatever its length in the settings is.
+func HashRaw(password, salt []byte, settings Settings) ([]byte, error) {
+	return run{settings: settings}.compute(password, salt, false)
+}
+
+// Verify returns whether a password matches an encoded hash that is within [DefaultLimits]. An error means that nothing
+// was compared: let nobody in.
+func Verify(encoded string, password []byte) (matches bool, err error) {
+	return run{limits: DefaultLimits()}.verify(encoded, password)
+}
+
+// VerifyAndUpdate verifies a password as [Verify] does, with the secret and the data of the settings, and within their
+// limits ([LimitsFor]). If the password matches and [NeedsRehash] returns true, updated is the new encoded hash to
+// store. If the new hash fails, matches is still true, and updated is empty.
+func VerifyAndUpdate(encoded string, password []byte, settings Settings) (matches bool, updated string, err error) {
+	r := run{settings: settings, limits: LimitsFor(settings)}
+	return r.verifyAndUpdate(encoded, password, settings.Secret, false)
+}
+
+// VerifyUnknown is for a login whose user does not exist. It takes as long as verifying a hash with these settings, and
+// never matches. Without it, an attacker can measure which users exist.
+func VerifyUnknown(password []byte, settings Settings) (matches bool, err error) {
+	return run{settings: settings}.verifyUnknown(password)
+}
+
+// Key derives a key with Argon2i, as golang.org/x/crypto/argon2 does. It panics as [IDKey] does.
+func Key(password, salt []byte, time, memory uint32, threads uint8, keyLen uint32) []byte {
+	return deriveKey(I, password, salt, time, memory, threads, keyLen)
+}
+
+// IDKey derives a key with Argon2id, as golang.org/x/crypto/argon2 does, and panics as that does if time or threads
+// is 0. It also panics with an [Error] if memory runs out, and below 8 KiB of memory per thread, 8 bytes of salt or 4
+// bytes of key: Argon2 defines no hash there, but that package returns bytes.
+func IDKey(password, salt []byte, time, memory uint32, threads uint8, keyLen uint32) []byte {
+	return deriveKey(ID, password, salt, time, memory, threads, keyLen)
+}
+
+func deriveKey(v Variant, password, salt []byte, time, memory uint32, threads uint8, keyLen uint32) []byte {
+	if time < 1 {
+		panic("argon2: number of rounds too small")
+	}
+	if threads < 1 {
+		panic("argon2: parallelism degree too low")
+	}
+	key, err := HashRaw(password, salt, Settings{
+		Variant: v, Version: Version, Memory: memory, Time: time, Lanes: uint32(threads), HashLength: keyLen,
+	})
+	if err != nil {
+		panic(err)
+	}
+	return key
+}
+
+// run computes hashes with settings, and verifies within limits.
+type run struct {
+	settings Settings
+	limits   Limits
+	buffer   *buffer // where the calls compute, or nil: then each allocates its own memory
+	stop     *int32  // stops a call once it is not 0, or nil
+}
+
+func (r run) hash(password []byte) (string, error) {
+	salt := make([]byte, r.settings.SaltLength)
+	if _, err := rand.Read(salt); err != nil {
+		return "", fmt.Errorf("%w: %v", ErrNoRandomBytes, err)
+	}
+	encoded, err := r.compute(password, salt, true)
+	if err != nil {
+		return "", err
+	}
+	return string(encoded[:len(encoded)-1]), nil
+}
+
+func (r run) verify(encoded string, password []byte) (bool, error) {
+	err := r.compare(encoded, password)
+	if err == mismatch {
+		return false, nil
+	}
+	return err == nil, err
+}
+
+// verifyAndUpdate verifies with this secret. It computes a new hash with the settings if the stored hash needs one or
+// if isOld is true, as it is for an old pepper.
+func (r run) verifyAndUpdate(encoded string, password, secret []byte, isOld bool) (
+	matches bool, updated string, err error) {
+	old := r
+	old.settings.Secret = secret
+	if matches, err = old.verify(encoded, password); !matches {
+		return false, "", err
+	}
+	if needs, err := NeedsRehash(encoded, r.settings); needs || isOld || err != nil {
+		updated, _ = r.hash(password)
+	}
+	return true, updated, nil
+}
+
+func (r run) verifyUnknown(password []byte) (bool, error) {
+	r.settings.Threads = r.settings.threads(maxVerifyingThreads)
+	// Nobody learns the hash, so this salt serves.
+	tag, err := r.compute(password, make([]byte, r.settings.SaltLength), false)
+	for i := range tag {
+		tag[i] = 0
+	}
+	return false, err
+}
