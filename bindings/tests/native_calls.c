@@ -20,6 +20,7 @@
 
 #define ENCODED "$argon2id$v=19$m=256,t=2,p=1$c29tZXNhbHQ$nf65EOgLrQMR/uIPnA4rEsF5h7TKyQwu9U1bMCHGi/4"
 enum { OK = 0, MISMATCH = 64, LARGEST = 128 };
+enum { HASH, VERIFY }; /* the first two of Native.Call */
 
 struct array {
     size_t of_item;
@@ -27,11 +28,8 @@ struct array {
     uint8_t bytes[LARGEST];
 };
 
-typedef jint load(JavaVM *, void *);
-typedef jint hash_call(
-    JNIEnv *, jclass, jintArray, jbyteArray, jbyteArray, jbyteArray, jbyteArray, jlongArray, jobject, jbyteArray);
-typedef jint verify_call(
-    JNIEnv *, jclass, jintArray, jbyteArray, jbyteArray, jbyteArray, jbyteArray, jlongArray, jobject, jlongArray);
+typedef jint make_call(JNIEnv *, jclass, jint, jintArray, jlongArray, jlongArray, jbyteArray, jbyteArray, jbyteArray,
+    jbyteArray, jbyteArray);
 
 static int asked;
 
@@ -65,21 +63,15 @@ static void set_bytes(JNIEnv *env, jbyteArray array, jsize first, jsize count, c
     if (env != NULL) memcpy(((struct array *)array)->bytes + first, from, (size_t)count);
 }
 
-static jclass find_class(JNIEnv *env, const char *name)
-{
-    return env != NULL && strcmp(name, "java/util/function/BooleanSupplier") == 0 ? (jclass)&asked : NULL;
-}
-
 static jmethodID method_of(JNIEnv *env, jclass class, const char *name, const char *type)
 {
-    return env != NULL && class != NULL && strcmp(name, "getAsBoolean") == 0 && strcmp(type, "()Z") == 0
-        ? (jmethodID)&asked
-        : NULL;
+    const bool is_known = strcmp(name, "isStopped") == 0 && strcmp(type, "()Z") == 0;
+    return env != NULL && class == (jclass)&asked && is_known ? (jmethodID)&asked : NULL;
 }
 
-static jboolean is_stopped(JNIEnv *env, jobject supplier, jmethodID method, ...)
+static jboolean is_stopped(JNIEnv *env, jclass class, jmethodID method, ...)
 {
-    asked += env != NULL && supplier != NULL && method == (jmethodID)&asked;
+    asked += env != NULL && class == (jclass)&asked && method == (jmethodID)&asked;
     return JNI_FALSE;
 }
 
@@ -94,18 +86,11 @@ static const struct JNINativeInterface_ calls = {
     .GetIntArrayRegion = get_ints,
     .GetLongArrayRegion = get_longs,
     .SetByteArrayRegion = set_bytes,
-    .FindClass = find_class,
-    .GetMethodID = method_of,
-    .CallBooleanMethod = is_stopped,
+    .GetStaticMethodID = method_of,
+    .CallStaticBooleanMethod = is_stopped,
     .ExceptionCheck = has_thrown,
 };
 static JNIEnv of_thread = &calls;
-
-static jint env_of(JavaVM *machine, void **to, jint version)
-{
-    *to = &of_thread;
-    return machine != NULL && version == JNI_VERSION_1_8 ? JNI_OK : JNI_ERR;
-}
 
 static void *array_of(struct array *array, size_t of_item, const void *from, size_t count)
 {
@@ -114,40 +99,31 @@ static void *array_of(struct array *array, size_t of_item, const void *from, siz
     return array;
 }
 
-static bool is_right(load *begin, hash_call *hash, verify_call *verify)
+static bool is_right(make_call *make)
 {
-    const struct JNIInvokeInterface_ machine = {.GetEnv = env_of};
-    JavaVM vm = &machine;
     const jint numbers[] = {2, 19, 256, 2, 1, 32, 8};
     const jlong limits[] = {256, 2, 1, 512};
     struct array of[7];
+    const jclass class = (jclass)&asked;
     const jintArray settings = array_of(&of[0], sizeof(jint), numbers, 7);
-    const jbyteArray password = array_of(&of[1], 1, "password", 8), salt = array_of(&of[2], 1, "somesalt", 8);
-    const jbyteArray none = array_of(&of[3], 1, "", 0), text = array_of(&of[4], 1, "", 0);
-    const jlongArray within = array_of(&of[5], sizeof(jlong), limits, 4);
-    const jbyteArray wrong = array_of(&of[6], 1, "Password", 8);
-    of[4].length = sizeof ENCODED;
-    if (begin(&vm, NULL) != JNI_VERSION_1_8) return false;
-    const jint code = hash(&of_thread, NULL, settings, password, salt, none, none, NULL, (jobject)&asked, text);
-    if (code != OK || strcmp((char *)of[4].bytes, ENCODED) != 0 || asked != 8) return false;
-    of[4].length = sizeof ENCODED - 1;
-    return verify(&of_thread, NULL, settings, password, text, none, none, NULL, (jobject)&asked, within) == OK
-        && verify(&of_thread, NULL, settings, wrong, text, none, none, NULL, (jobject)&asked, within) == MISMATCH;
+    const jlongArray most = array_of(&of[1], sizeof(jlong), limits, 4);
+    const jbyteArray password = array_of(&of[2], 1, "password", 8), wrong = array_of(&of[3], 1, "Password", 8);
+    const jbyteArray salt = array_of(&of[4], 1, "somesalt", 8);
+    const jbyteArray none = array_of(&of[5], 1, "", 0), text = array_of(&of[6], 1, "", 0);
+    of[6].length = sizeof ENCODED;
+    const jint code = make(&of_thread, class, HASH, settings, most, NULL, password, salt, none, none, text);
+    if (code != OK || strcmp((char *)of[6].bytes, ENCODED) != 0 || asked != 1 + 8) return false;
+    of[6].length = sizeof ENCODED - 1;
+    return make(&of_thread, class, VERIFY, settings, most, NULL, password, none, none, none, text) == OK
+        && make(&of_thread, class, VERIFY, settings, most, NULL, wrong, none, none, none, text) == MISMATCH;
 }
 
 int main(int argc, char **argv)
 {
     void *const library = argc == 2 ? OPEN(argv[1]) : NULL;
-    load *begin = NULL;
-    hash_call *hash = NULL;
-    verify_call *verify = NULL;
-    if (library != NULL) {
-        void *const found[] = {FIND(library, "JNI_OnLoad"), FIND(library, "Java_proved_argon2_Native_hash"),
-            FIND(library, "Java_proved_argon2_Native_verify")};
-        memcpy(&begin, &found[0], sizeof begin);
-        memcpy(&hash, &found[1], sizeof hash);
-        memcpy(&verify, &found[2], sizeof verify);
-    }
-    puts(begin != NULL && hash != NULL && verify != NULL && is_right(begin, hash, verify) ? "right" : "wrong");
+    void *const found = library != NULL ? FIND(library, "Java_proved_argon2_Native_make") : NULL;
+    make_call *make = NULL;
+    memcpy(&make, &found, sizeof make);
+    puts(make != NULL && is_right(make) ? "right" : "wrong");
     return 0;
 }

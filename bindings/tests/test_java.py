@@ -135,7 +135,7 @@ USUAL = "--exclude-tag", "codes", "--exclude-tag", "denied"
 
 
 def test_its_own_tests_pass_in_java_17(jar, classes, drawn):
-    passes(68, "java", *words_of(jar, classes, drawn, *USUAL))
+    passes(66, "java", *words_of(jar, classes, drawn, *USUAL))
 
 
 @pytest.fixture(scope="module")
@@ -153,7 +153,7 @@ def system(tmp_path_factory):
 def test_its_own_tests_pass_in_newer_java(jar, classes, drawn, system, version):
     folders = TOP, jar.parent, drawn["RANDOM_HASHES"].parent, "/usr/share/java", "/usr/share/maven-repo"
     java = f"/usr/lib/jvm/java-{version}-openjdk-amd64/bin/java"
-    passes(68, "unshare", "--mount", "--propagation", "private", "bash", "-euc", ELSEWHERE, "bash", system, *folders,
+    passes(66, "unshare", "--mount", "--propagation", "private", "bash", "-euc", ELSEWHERE, "bash", system, *folders,
            "--", java, *words_of(jar, classes, drawn, *USUAL))
 
 
@@ -168,7 +168,7 @@ def test_its_own_tests_pass_on_arm64(classes, drawn, tmp_path):
     run(JAVA / "pack", jar, built("aarch64") / "aarch64", env=DATED)
     java = root / "usr/lib/jvm/java-17-openjdk-arm64/bin/java"
     words = words_of(jar, classes, drawn, *USUAL, "--exclude-tag", "terabytes")
-    passes(67, "qemu-aarch64-static", "-L", root, java, *words)
+    passes(65, "qemu-aarch64-static", "-L", root, java, *words)
 
 
 def test_each_public_member_is_documented(tmp_path):
@@ -187,7 +187,7 @@ def test_each_number_is_a_value_or_its_error(jar, classes, drawn, tmp_path):
     for name in ("hash_encoded", "verify_encoded_within", "needs_rehash"):
         named[f"codes.{name}"] = " ".join(f"{number}={value}" for number, value in CODES[name].values.items())
         named[f"passed.{name}"] = CODES[name].computing
-    passes(6, "java", *(f"-D{name}={value}" for name, value in named.items()),
+    passes(3, "java", *(f"-D{name}={value}" for name, value in named.items()),
            *words_of(jar, classes, drawn, "--include-tag", "codes"))
 
 

@@ -51,9 +51,9 @@ public final class Argon2Exception extends RuntimeException {
     /** The number of the error. */
     private final int number;
 
-    Argon2Exception(int returned) {
-        super(messageOf(known(returned)));
-        number = known(returned);
+    Argon2Exception(int number) {
+        super(messageOf(number));
+        this.number = number;
     }
 
     /** {@return the number of the error, one of the constants of this class} */
@@ -61,8 +61,11 @@ public final class Argon2Exception extends RuntimeException {
         return number;
     }
 
-    private static int known(int returned) {
-        return returned == NOT_ASCII ? DECODING_FAIL : returned;
+    /** Throws the exception with a number that the library may have returned, unless a condition holds. */
+    static void require(boolean holds, int returned) {
+        if (!holds) {
+            throw new Argon2Exception(returned == NOT_ASCII ? DECODING_FAIL : returned);
+        }
     }
 
     private static String messageOf(int number) {

@@ -9,7 +9,6 @@ import java.util.concurrent.ConcurrentHashMap;
 import java.util.concurrent.ExecutionException;
 import java.util.concurrent.LinkedBlockingQueue;
 import java.util.concurrent.RejectedExecutionException;
-import java.util.concurrent.Semaphore;
 import java.util.concurrent.ThreadPoolExecutor;
 import java.util.concurrent.TimeUnit;
 import java.util.function.Supplier;
@@ -33,10 +32,9 @@ public final class HashQueue implements AutoCloseable {
     private static final int MOST_THREADS = (1 << 29) - 1;
 
     private final ThreadPoolExecutor threads;
-    /** A permit for each call that may compute or wait. */
-    private final Semaphore places;
-    /** The calls that compute or wait. */
+    /** The calls that compute or wait, at most as many as there are places. */
     private final Set<Task<?>> tasks = ConcurrentHashMap.newKeySet();
+    private final long places;
 
     /** A queue in which {@code concurrency} calls compute at a time, at least 1, and {@code waiting} more wait. */
     public HashQueue(int concurrency, int waiting) {
@@ -51,17 +49,17 @@ public final class HashQueue implements AutoCloseable {
         threads = new ThreadPoolExecutor(
             most, most, idle.toNanos(), TimeUnit.NANOSECONDS, new LinkedBlockingQueue<>(), Worker::new);
         threads.allowCoreThreadTimeOut(true);
-        places = new Semaphore((int) Math.min(Integer.MAX_VALUE, (long) concurrency + waiting));
+        places = (long) concurrency + waiting;
     }
 
     /**
-     * {@return a queue that computes {@code processors / lanes} hashes at a time, or fewer, so that they fit into
+     * {@return a queue that computes {@code processors / lanes} hashes at a time, or fewer if only those fit into
      * {@code bytes} of memory; at least one} 16 times as many calls wait.
      */
     public static HashQueue of(Settings settings, long bytes) {
+        int used = settings.memory() - settings.memory() % (4 * settings.lanes()); // in KiB, as the library rounds it
         long processors = Runtime.getRuntime().availableProcessors() / settings.lanes();
-        long fitting = Math.min(processors, bytes / Native.memoryLength(settings.numbers()));
-        int concurrency = (int) Math.max(1, fitting);
+        int concurrency = (int) Math.max(1, Math.min(processors, bytes / (1024L * used)));
         return new HashQueue(concurrency, WAITING_FOR_EACH * concurrency);
     }
 
@@ -74,9 +72,7 @@ public final class HashQueue implements AutoCloseable {
     public <T> CompletableFuture<T> submit(Supplier<T> call) {
         Task<T> task = new Task<>(call);
         task.whenComplete((value, error) -> task.leaveQueue());
-        if (!hasPlace() || !isAccepted(task)) {
-            throw new Argon2Exception(Argon2Exception.BUSY);
-        }
+        Argon2Exception.require(hasPlace(task) && isQueued(task), Argon2Exception.BUSY);
         return task;
     }
 
@@ -86,7 +82,7 @@ public final class HashQueue implements AutoCloseable {
      * {@link Argon2Exception#STOPPED} if the queue is closed meanwhile.
      */
     public <T> T run(Supplier<T> call) {
-        if (Thread.currentThread() instanceof Worker worker && worker.queue() == this) {
+        if (Thread.currentThread() instanceof Worker worker && worker.queue == this) {
             return call.get(); // waiting for another thread of the queue could be a deadlock
         }
         CompletableFuture<T> future = submit(call);
@@ -97,18 +93,14 @@ public final class HashQueue implements AutoCloseable {
             Thread.currentThread().interrupt();
             throw new Argon2Exception(Argon2Exception.STOPPED);
         } catch (ExecutionException failure) {
-            if (failure.getCause() instanceof RuntimeException error) {
+            Throwable cause = failure.getCause();
+            if (cause instanceof Error error) {
                 throw error;
             }
-            if (failure.getCause() instanceof Error error) {
-                throw error;
-            }
-            throw new CompletionException(failure.getCause()); // the call threw one, and get() has unwrapped it
-        } catch (CancellationException cancelled) {
-            if (threads.isShutdown()) {
-                throw new Argon2Exception(Argon2Exception.STOPPED);
-            }
-            throw cancelled; // by the call itself: nobody else has the future
+            // (if the call threw a CompletionException, get() has unwrapped it)
+            throw cause instanceof RuntimeException error ? error : new CompletionException(cause);
+        } catch (CancellationException cancelled) { // by close(), or by the call itself: nobody else has the future
+            throw threads.isShutdown() ? new Argon2Exception(Argon2Exception.STOPPED) : cancelled;
         }
     }
 
@@ -120,54 +112,50 @@ public final class HashQueue implements AutoCloseable {
     }
 
     /**
-     * Takes a place if there is one. A cancelled call needs no place, even before its own {@link Task#leaveQueue} has
+     * Adds a call if there is a place. A cancelled call needs no place, even before its own {@link Task#leaveQueue} has
      * run: the user's callbacks run first, and may take long or submit the next call.
      */
-    private boolean hasPlace() {
-        if (places.tryAcquire()) {
-            return true;
-        }
-        tasks.stream().filter(CompletableFuture::isDone).forEach(Task::leaveQueue);
-        return places.tryAcquire();
-    }
-
-    /** Passes a call that has a place to the threads, or gives the place back. */
-    private boolean isAccepted(Task<?> task) {
-        boolean isAccepted = false;
-        try {
-            isAccepted = tasks.add(task) && isQueued(task);
-        } finally {
-            if (!isAccepted) {
-                tasks.remove(task);
-                places.release();
+    private boolean hasPlace(Task<?> task) {
+        synchronized (tasks) {
+            if (tasks.size() >= places) {
+                tasks.stream().filter(CompletableFuture::isDone).forEach(Task::leaveQueue);
             }
+            return tasks.size() < places && tasks.add(task);
         }
-        return isAccepted;
     }
 
-    /** If the system denies another thread, the call waits for those that there are. */
+    /** Passes a call to the threads. If the system denies another thread, the call waits for those that there are. */
     private boolean isQueued(Task<?> task) {
+        boolean isQueued = false;
         try {
             threads.execute(task);
-            return true;
+            isQueued = true;
         } catch (RejectedExecutionException closed) {
-            return false;
+            isQueued = false;
         } catch (OutOfMemoryError denied) {
             threads.getQueue().add(task);
-            return threads.getPoolSize() > 0 || !threads.remove(task);
+            isQueued = threads.getPoolSize() > 0 || !threads.remove(task);
+        } finally {
+            if (!isQueued) {
+                tasks.remove(task);
+            }
         }
+        return isQueued;
     }
 
     /** A call, and the future of its result. */
     private final class Task<T> extends CompletableFuture<T> implements Runnable {
-        /** Null once it was made: it may refer to a password. */
+        /** Null once it was made or left the queue: it may refer to a password. */
         private Supplier<T> call;
 
         private Task(Supplier<T> call) {
             this.call = call;
         }
 
-        /** Makes the call. Its place is free before anybody hears of its end. */
+        /**
+         * Makes the call. Its place is free before anybody hears of its end. If there is no memory for the result of a
+         * callback, completing throws, and only another attempt runs the other callbacks and wakes who waits.
+         */
         @Override
         public void run() {
             Worker thread = (Worker) Thread.currentThread();
@@ -182,40 +170,26 @@ public final class HashQueue implements AutoCloseable {
             thread.current = null;
             call = null;
             Thread.interrupted(); // the call may have left the thread interrupted
-            leave();
-            while (!isCompleted(value, error)) {
-                Thread.yield();
+            tasks.remove(this);
+            while (true) {
+                try {
+                    if (error == null) {
+                        complete(value);
+                    } else {
+                        completeExceptionally(error);
+                    }
+                    return;
+                } catch (Throwable full) {
+                    Thread.yield();
+                }
             }
         }
 
-        /** Gives back the place, once. */
-        private void leave() {
-            if (tasks.remove(this)) {
-                places.release();
-            }
-        }
-
-        /** Takes a call that waits, and is cancelled, out of the queue. */
+        /** Removes a cancelled call that still waits from the queue. */
         private void leaveQueue() {
             if (threads.remove(this)) {
-                leave();
-            }
-        }
-
-        /**
-         * Completes the future, and returns false if that has to be done again. If there is no memory for the result
-         * of a callback, completing throws, and only another attempt runs the other callbacks and wakes who waits.
-         */
-        private boolean isCompleted(T value, Throwable error) {
-            try {
-                if (error == null) {
-                    complete(value);
-                } else {
-                    completeExceptionally(error);
-                }
-                return true;
-            } catch (Throwable full) {
-                return false;
+                call = null;
+                tasks.remove(this);
             }
         }
     }
@@ -224,6 +198,7 @@ public final class HashQueue implements AutoCloseable {
     final class Worker extends Thread {
         /** The address and the length of the reusable buffer. */
         final long[] kept = new long[2];
+        private final HashQueue queue = HashQueue.this;
         /** The call that is being made, or null while callbacks of its future run. */
         private Task<?> current;
 
@@ -244,10 +219,6 @@ public final class HashQueue implements AutoCloseable {
         /** Whether nobody waits for the call any more. What callbacks compute in this thread is never stopped. */
         boolean isStopped() {
             return current != null && current.isDone();
-        }
-
-        private HashQueue queue() {
-            return HashQueue.this;
         }
     }
 }

@@ -24,13 +24,12 @@ public record Limits(int memory, int passes, int lanes, long work) {
             Math.max(DEFAULT.work, (long) settings.memory() * settings.passes()));
     }
 
+    /** The numbers of the library have no sign: the highest {@code int} or {@code long} is no limit. */
     long[] numbers() {
-        long most = work == Long.MAX_VALUE ? -1 : Math.max(0, work);
-        return new long[] {number(memory), number(passes), number(lanes), most};
-    }
-
-    /** A limit of the library, whose numbers have no sign: the highest {@code int} is no limit. */
-    private static long number(int limit) {
-        return limit == Integer.MAX_VALUE ? 0xFFFFFFFFL : Math.max(0, limit);
+        long[] numbers = {memory, passes, lanes, work};
+        for (int i = 0; i < numbers.length; i++) {
+            numbers[i] = numbers[i] == (i < 3 ? Integer.MAX_VALUE : Long.MAX_VALUE) ? -1 : Math.max(0, numbers[i]);
+        }
+        return numbers;
     }
 }

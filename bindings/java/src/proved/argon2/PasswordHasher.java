@@ -5,9 +5,9 @@ import java.nio.CharBuffer;
 import java.nio.charset.StandardCharsets;
 import java.security.SecureRandom;
 import java.util.Arrays;
+import java.util.List;
 import java.util.Objects;
 import java.util.Optional;
-import java.util.function.BooleanSupplier;
 import java.util.function.Function;
 
 /**
@@ -64,11 +64,11 @@ public class PasswordHasher {
     }
 
     /**
-     * {@return the same hasher with a pepper, a secret key} {@link Peppers} has several. An empty key throws {@link
+     * {@return the same hasher with a pepper, a secret key} {@link Peppers} manages several. An empty key throws {@link
      * Argon2Exception#INVALID_PEPPERS}: it would be no pepper.
      */
     public final PasswordHasher withPepper(byte[] key) {
-        Native.require(key.length > 0 ? Native.OK : Argon2Exception.INVALID_PEPPERS);
+        Argon2Exception.require(key.length > 0, Argon2Exception.INVALID_PEPPERS);
         return new PasswordHasher(settings, limits, key.clone(), associatedData);
     }
 
@@ -109,26 +109,21 @@ public class PasswordHasher {
         return verifyAndUpdate(stored, password, this);
     }
 
-    /** {@return false, after the time of verifying a hash with these settings} For a user who does not exist. */
+    /** {@return false, taking as long as verifying a hash with these settings} For a user who does not exist. */
     public final boolean verifyUnknown(char[] password) {
         return encoded(CharBuffer.wrap(password), this::verifyUnknown);
     }
 
-    /** {@return false, after the time of verifying a hash with these settings} For a user who does not exist. */
+    /** {@return false, taking as long as verifying a hash with these settings} For a user who does not exist. */
     public final boolean verifyUnknown(byte[] password) {
-        Objects.requireNonNull(password);
-        requireVerdict(call((kept, isStopped) ->
-            Native.verifyUnknown(settings.numbers(), password, pepper, kept, isStopped)));
+        call(Native.Call.VERIFY_UNKNOWN, password, NONE, NONE, Native.MISMATCH, Native.NEEDS_REHASH);
         return false;
     }
 
     /** {@return whether a stored hash has other settings, or a salt of another length} It computes no hash. */
     public final boolean needsRehash(String stored) {
-        int number = Native.needsRehash(settings.numbers(), bytesOf(stored));
-        if (number != Native.NEEDS_REHASH) {
-            Native.require(number);
-        }
-        return number == Native.NEEDS_REHASH;
+        byte[] text = stored.getBytes(StandardCharsets.UTF_8);
+        return call(Native.Call.NEEDS_REHASH, NONE, NONE, text, Native.NEEDS_REHASH) == Native.NEEDS_REHASH;
     }
 
     /** {@return what {@link #hash(char[])} does} */
@@ -152,13 +147,10 @@ public class PasswordHasher {
     }
 
     final String hash(byte[] password, byte[] salt) {
-        Objects.requireNonNull(password);
-        int[] numbers = settings.numbers();
-        long length = Native.encodedLength(numbers) + 1;
-        Native.require(length < LONGEST_ARRAY ? Native.OK : Argon2Exception.OUT_OF_MEMORY);
+        long length = Native.encodedLength(settings.numbers()) + 1;
+        Argon2Exception.require(length < LONGEST_ARRAY, Argon2Exception.OUT_OF_MEMORY);
         byte[] text = new byte[(int) length];
-        Native.require(call((kept, isStopped) ->
-            Native.hash(numbers, password, salt, pepper, associatedData, kept, isStopped, text)));
+        call(Native.Call.HASH, password, salt, text);
         return new String(text, 0, text.length - 1, StandardCharsets.US_ASCII);
     }
 
@@ -180,9 +172,8 @@ public class PasswordHasher {
         ByteBuffer buffer = ByteBuffer.allocate(Math.multiplyExact(MOST_BYTES, password.remaining()));
         byte[] bytes = NONE;
         try {
-            if (StandardCharsets.UTF_8.newEncoder().encode(password, buffer, true).isError()) {
-                throw new Argon2Exception(Argon2Exception.NOT_UNICODE);
-            }
+            boolean isUnicode = !StandardCharsets.UTF_8.newEncoder().encode(password, buffer, true).isError();
+            Argon2Exception.require(isUnicode, Argon2Exception.NOT_UNICODE);
             bytes = Arrays.copyOf(buffer.array(), buffer.position());
             return call.apply(bytes);
         } finally {
@@ -191,36 +182,18 @@ public class PasswordHasher {
         }
     }
 
+    /** Verifies a password, and returns 0, MISMATCH or NEEDS_REHASH. */
     private int verdict(String stored, byte[] password) {
-        Objects.requireNonNull(password);
-        byte[] text = bytesOf(stored);
-        return requireVerdict(call((kept, isStopped) -> Native.verify(
-            settings.numbers(), password, text, pepper, associatedData, kept, isStopped, limits.numbers())));
+        byte[] text = stored.getBytes(StandardCharsets.UTF_8);
+        return call(Native.Call.VERIFY, password, NONE, text, Native.MISMATCH, Native.NEEDS_REHASH);
     }
 
-    private static byte[] bytesOf(String stored) {
-        return stored.getBytes(StandardCharsets.UTF_8);
-    }
-
-    private static int requireVerdict(int number) {
-        if (number != Native.MISMATCH && number != Native.NEEDS_REHASH) {
-            Native.require(number);
-        }
+    /** Makes a call, in a queue's thread in its buffer. A number other than 0 and these verdicts is an error. */
+    private int call(Native.Call call, byte[] password, byte[] salt, byte[] text, Integer... verdicts) {
+        long[] kept = Thread.currentThread() instanceof HashQueue.Worker worker ? worker.kept : null;
+        int number = Native.make(call.ordinal(), settings.numbers(), limits.numbers(), kept,
+            Objects.requireNonNull(password), salt, pepper, associatedData, text);
+        Argon2Exception.require(number == Native.OK || List.of(verdicts).contains(number), number);
         return number;
-    }
-
-    /** Makes a call until the thread is interrupted; in a queue's thread, in its buffer until the future is done. */
-    private static int call(Call call) {
-        Thread thread = Thread.currentThread();
-        long[] kept = thread instanceof HashQueue.Worker worker ? worker.kept : null;
-        BooleanSupplier isStopped =
-            thread instanceof HashQueue.Worker worker ? worker::isStopped : thread::isInterrupted;
-        return isStopped.getAsBoolean() ? Argon2Exception.STOPPED : call.number(kept, isStopped);
-    }
-
-    /** A call of the library that computes. */
-    @FunctionalInterface
-    private interface Call {
-        int number(long[] kept, BooleanSupplier isStopped);
     }
 }

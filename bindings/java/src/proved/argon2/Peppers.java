@@ -15,7 +15,6 @@ import java.util.Map;
  */
 public final class Peppers {
     private final String newest;
-    private final PasswordHasher unpeppered;
     /** A hasher for each ID, and for null if hashes without a pepper are accepted. */
     private final Map<String, PasswordHasher> hashers;
 
@@ -37,25 +36,25 @@ public final class Peppers {
 
     /** Peppers for a hasher, the newest first. Wrong ones throw {@link Argon2Exception#INVALID_PEPPERS}. */
     public Peppers(PasswordHasher hasher, Pepper... peppers) {
-        this(peppers.length == 0 ? null : peppers[0].id, hasher.withoutPepper(), new HashMap<>());
+        Argon2Exception.require(peppers.length > 0, Argon2Exception.INVALID_PEPPERS);
+        newest = peppers[0].id;
+        hashers = new HashMap<>();
         for (Pepper pepper : peppers) {
             PasswordHasher known = hashers.put(pepper.id, hasher.withPepper(pepper.key));
-            require(pepper.id != null && known == null, Argon2Exception.INVALID_PEPPERS);
+            Argon2Exception.require(pepper.id != null && known == null, Argon2Exception.INVALID_PEPPERS);
         }
-        require(newest != null, Argon2Exception.INVALID_PEPPERS);
     }
 
-    private Peppers(String newest, PasswordHasher unpeppered, Map<String, PasswordHasher> hashers) {
-        this.newest = newest;
-        this.unpeppered = unpeppered;
-        this.hashers = hashers;
+    /** A copy that accepts hashes without a pepper. */
+    private Peppers(Peppers other) {
+        newest = other.newest;
+        hashers = new HashMap<>(other.hashers);
+        hashers.put(null, hashers.get(newest).withoutPepper());
     }
 
     /** {@return the same peppers, which also verify and renew hashes whose ID is null} */
     public Peppers acceptUnpeppered() {
-        Map<String, PasswordHasher> all = new HashMap<>(hashers);
-        all.put(null, unpeppered);
-        return new Peppers(newest, unpeppered, all);
+        return new Peppers(this);
     }
 
     /** {@return the hash of a password with the newest pepper} */
@@ -76,24 +75,18 @@ public final class Peppers {
     /** {@return whether the password is right, and what to store if the hash has an older pepper or other settings} */
     public Verdict<Stored> verifyAndUpdate(String id, String stored, byte[] password) {
         PasswordHasher hasher = hashers.get(id);
-        require(hasher != null, Argon2Exception.UNKNOWN_PEPPER);
+        Argon2Exception.require(hasher != null, Argon2Exception.UNKNOWN_PEPPER);
         Verdict<String> verdict = hasher.verifyAndUpdate(stored, password, hashers.get(newest));
         return new Verdict<>(verdict.matches(), verdict.update().map(hash -> new Stored(newest, hash)));
     }
 
-    /** {@return false, after the time of verifying a hash with the newest pepper} For a user who does not exist. */
+    /** {@return false, taking as long as verifying a hash with the newest pepper} For a user who does not exist. */
     public boolean verifyUnknown(char[] password) {
         return hashers.get(newest).verifyUnknown(password);
     }
 
-    /** {@return false, after the time of verifying a hash with the newest pepper} For a user who does not exist. */
+    /** {@return false, taking as long as verifying a hash with the newest pepper} For a user who does not exist. */
     public boolean verifyUnknown(byte[] password) {
         return hashers.get(newest).verifyUnknown(password);
-    }
-
-    private static void require(boolean holds, int number) {
-        if (!holds) {
-            throw new Argon2Exception(number);
-        }
     }
 }

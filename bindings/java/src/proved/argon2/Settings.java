@@ -17,7 +17,8 @@ public record Settings(
     public Settings {
         int[] numbers = {variant.ordinal(), version.number, Math.max(0, memory), Math.max(0, passes),
             Math.max(0, lanes), Math.max(0, hashLength), Math.max(0, saltLength)};
-        Native.require(Native.check(numbers));
+        int error = Native.check(numbers);
+        Argon2Exception.require(error == Native.OK, error);
     }
 
     // presets, by .ci/pages/presets

@@ -13,7 +13,7 @@ import java.util.function.ToDoubleFunction;
  *
  * @param settings the settings
  * @param milliseconds the time of a hash, the least of several
- * @param load how many programs ran at a time in the last minute, if Linux reports it. Others make hashes slower
+ * @param load how many programs ran at once in the last minute, if Linux reports it. Other programs slow hashes down
  */
 public record Tuning(Settings settings, double milliseconds, OptionalDouble load) {
     /** The least memory in KiB, and the least work, of OWASP's recommendations. */
@@ -22,8 +22,8 @@ public record Tuning(Settings settings, double milliseconds, OptionalDouble load
     private static final int ROUNDS = 3;
 
     /**
-     * Measures hashes, and finds the strongest settings whose hash takes at most this long on this machine: as much
-     * memory as possible, up to that of {@code most}, and then as many passes as possible, within the default limits.
+     * Measures hashes, and finds strong settings whose hash takes at most this long on this machine: the
+     * memory of {@code most}, halved until a hash fits, and then as many passes as possible, within the default limits.
      * It finds none if even the weakest settings that protect passwords take longer.
      */
     public static Optional<Tuning> tune(Duration within, Settings most) {

@@ -7,7 +7,7 @@ import java.util.Optional;
  *
  * @param <T> an encoded hash, or one with the ID of its pepper
  * @param matches whether the password is right
- * @param update what to store, if the password is right and what was stored is not current. Otherwise, and if only the
- *     new hash could not be computed, it is empty
+ * @param update what to store, if the password is right and what was stored is not current. Otherwise, or if the new
+ *     hash could not be computed, it is empty
  */
 public record Verdict<T>(boolean matches, Optional<T> update) {}

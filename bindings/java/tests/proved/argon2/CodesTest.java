@@ -1,25 +1,27 @@
 package proved.argon2;
 
-import static org.junit.jupiter.api.Assertions.assertEquals;
-import static org.junit.jupiter.api.Assertions.assertFalse;
-import static org.junit.jupiter.api.Assertions.assertThrows;
-import static org.junit.jupiter.api.Assertions.assertTrue;
+import static org.junit.jupiter.api.Assertions.*;
+import static proved.argon2.Argon2Exception.*;
+import static proved.argon2.HashesTest.bytes;
 
-import java.util.Arrays;
-import java.util.List;
-import java.util.function.Supplier;
-import java.util.stream.IntStream;
-import org.junit.jupiter.api.Tag;
-import org.junit.jupiter.api.Test;
+import java.util.*;
+import java.util.function.*;
+import java.util.stream.Stream;
+import org.junit.jupiter.api.*;
 
 /** What calls return for each number of the library, over a stub that returns the numbers set here. */
 @Tag("codes")
 class CodesTest {
-    private static final byte[] PASSWORD = HashesTest.bytes("word");
+    private static final byte[] PASSWORD = bytes("word");
+    private static final String STORED = "$argon2id$x";
     private static final int NOT_ASCII = 66;
+    private final PasswordHasher hasher;
 
-    static {
+    CodesTest() {
         Native.message(0); // loads the library
+        set(0, 0, 0);
+        hasher = new PasswordHasher(new Settings(Variant.ARGON2ID, Version.VERSION_13, 64, 3, 4, 5, 6))
+            .withPepper(bytes("key")).withAssociatedData(bytes("data")).withLimits(new Limits(10, 11, 12, 13));
     }
 
     private static native void set(int check, int then, int read);
@@ -27,97 +29,57 @@ class CodesTest {
     /** What the last call was passed. */
     private static native String seen();
 
-    private static PasswordHasher hasher() {
-        set(0, 0, 0);
-        Settings settings = new Settings(Variant.ARGON2ID, Version.VERSION_13, 64, 3, 4, 5, 6);
-        return new PasswordHasher(settings).withPepper(HashesTest.bytes("key"))
-            .withAssociatedData(HashesTest.bytes("data")).withLimits(new Limits(10, 11, 12, 13));
-    }
-
-    /** Expects the table's value for a number, such as {@code 0=true 64=false}, or else the number's error. */
-    private static void compare(String name, int number, Supplier<Object> call) {
-        for (String pair : System.getProperty("codes." + name).split(" ")) {
-            if (pair.startsWith(number + "=") && !pair.endsWith("=costly")) {
-                assertEquals(pair, number + "=" + call.get());
-                return;
+    /** Sets each number, and expects its value, as in {@code 0=true 64=false}, or else its error. */
+    private static void compare(String values, IntConsumer setting, Supplier<Object> call) {
+        for (String digits : System.getProperty("numbers").split(" ")) {
+            int number = Integer.parseUnsignedInt(digits);
+            setting.accept(number);
+            Optional<String> value = Stream.of(values.split(" "))
+                .filter(pair -> pair.startsWith(number + "=") && !pair.endsWith("=costly")).findAny();
+            if (value.isPresent()) {
+                assertEquals(value.get(), number + "=" + call.get());
+            } else {
+                int expected = number == NOT_ASCII ? DECODING_FAIL : number;
+                Argon2Exception error = assertThrows(Argon2Exception.class, call::get, digits);
+                assertEquals(expected, error.number());
+                assertTrue(error.getMessage().equals("N%03d".formatted(Integer.remainderUnsigned(expected, 1000)))
+                    || expected >= BUSY && expected <= NOT_UNICODE);
             }
         }
-        int expected = number == NOT_ASCII ? Argon2Exception.DECODING_FAIL : number;
-        Argon2Exception error = assertThrows(Argon2Exception.class, call::get, name + " " + number);
-        assertEquals(expected, error.number());
-        assertTrue(error.getMessage().equals("N%03d".formatted(Integer.remainderUnsigned(expected, 1000)))
-            || expected >= Argon2Exception.BUSY && expected <= Argon2Exception.NOT_UNICODE);
     }
 
-    private static IntStream numbers() {
-        return Arrays.stream(System.getProperty("numbers").split(" ")).mapToInt(Integer::parseUnsignedInt);
+    private static void compare(String values, Supplier<Object> call) {
+        compare(values, number -> set(0, number, 0), call);
     }
 
-    @Test
-    void settingsThrowTheNumberOfTheCheck() {
-        numbers().filter(number -> number != 0).forEach(number -> compare("hash_encoded", number, () -> {
-            set(number, 0, 0);
-            return Settings.owasp2();
-        }));
+    private static String table(String name) {
+        return System.getProperty("codes." + name);
     }
 
     @Test
-    void hashReturnsTextOrThrowsTheNumber() {
-        PasswordHasher hasher = hasher();
-        numbers().forEach(number -> compare("hash_encoded", number, () -> {
-            set(0, number, 0);
-            String text = hasher.hash(PASSWORD, HashesTest.bytes("somesalt"));
-            assertTrue(seen().endsWith("|" + System.getProperty("passed.hash_encoded")), seen());
-            return text.equals("x".repeat(12)) ? "text" : text;
-        }));
+    void eachNumberIsAValueOrItsError() {
+        compare("0=true", number -> set(number, 0, 0), () -> Settings.owasp2() != null);
+        compare(table("hash_encoded"), () -> hasher.hash(PASSWORD, bytes("somesalt")).replace("x".repeat(12), "text"));
+        compare(table("verify_encoded_within") + " 68=true", () -> hasher.verify(STORED, PASSWORD));
+        compare("0=false 64=false 68=false", () -> hasher.verifyUnknown(PASSWORD));
+        compare(table("needs_rehash"), () -> hasher.needsRehash(STORED));
+        compare(table("needs_rehash"), number -> set(0, 0, number), () -> hasher.needsRehash(STORED));
     }
 
     @Test
-    void verifyReturnsAVerdictOrThrowsTheNumber() {
-        PasswordHasher hasher = hasher();
-        numbers().filter(number -> number != Native.NEEDS_REHASH).forEach(number ->
-            compare("verify_encoded_within", number, () -> {
-                set(0, number, 0);
-                boolean matches = hasher.verify("$argon2id$x", PASSWORD);
-                assertTrue(seen().endsWith("|" + System.getProperty("passed.verify_encoded_within")), seen());
-                return matches;
-            }));
-        set(0, Native.NEEDS_REHASH, 0);
-        assertTrue(hasher.verify("$argon2id$x", PASSWORD));
-    }
-
-    @Test
-    void verifyUnknownReturnsFalseOrThrowsTheNumber() {
-        PasswordHasher hasher = hasher();
-        numbers().forEach(number -> {
-            set(0, number, 0);
-            if (List.of(Native.OK, Native.MISMATCH, Native.NEEDS_REHASH).contains(number)) {
-                assertFalse(hasher.verifyUnknown(PASSWORD));
-            } else {
-                PasswordHasherTest.assertFails(
-                    number == NOT_ASCII ? Argon2Exception.DECODING_FAIL : number, () -> hasher.verifyUnknown(PASSWORD));
-            }
-        });
-    }
-
-    @Test
-    void needsRehashReturnsAnAnswerOrThrowsTheNumber() {
-        PasswordHasher hasher = hasher();
-        numbers().forEach(number -> compare("needs_rehash", number, () -> {
-            set(0, number, 0);
-            return hasher.needsRehash("$argon2id$x");
-        }));
-        set(0, 0, Argon2Exception.DECODING_FAIL);
-        PasswordHasherTest.assertFails(Argon2Exception.DECODING_FAIL, () -> hasher.needsRehash("$argon2id$x"));
+    void theLibraryIsPassedEachArgument() {
+        hasher.hash(PASSWORD, bytes("somesalt"));
+        assertTrue(seen().endsWith("|" + System.getProperty("passed.hash_encoded")), seen());
+        hasher.verify(STORED, PASSWORD);
+        assertTrue(seen().endsWith("|" + System.getProperty("passed.verify_encoded_within")), seen());
     }
 
     /** (the second value that was seen is the buffer's length, or -1) */
     @Test
     void aThreadOfAQueueComputesInItsBuffer() {
-        PasswordHasher hasher = hasher();
         try (HashQueue queue = new HashQueue(1, 0)) {
             for (Supplier<Object> call : List.<Supplier<Object>>of(
-                    () -> hasher.hash(PASSWORD), () -> hasher.verify("$argon2id$x", PASSWORD))) {
+                    () -> hasher.hash(PASSWORD), () -> hasher.verify(STORED, PASSWORD))) {
                 call.get();
                 assertTrue(seen().startsWith("4294967295|-1|"), seen());
                 queue.run(call);

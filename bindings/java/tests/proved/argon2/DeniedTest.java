@@ -1,24 +1,21 @@
 package proved.argon2;
 
-import static org.junit.jupiter.api.Assertions.assertEquals;
-import static org.junit.jupiter.api.Assertions.assertFalse;
-import static org.junit.jupiter.api.Assertions.assertTrue;
+import static org.junit.jupiter.api.Assertions.*;
+import static proved.argon2.Argon2Exception.*;
+import static proved.argon2.PasswordHasherTest.*;
 
 import java.io.IOException;
-import java.nio.file.Files;
-import java.nio.file.Path;
+import java.nio.file.*;
 import java.util.concurrent.CompletableFuture;
-import org.junit.jupiter.api.AfterEach;
-import org.junit.jupiter.api.Tag;
-import org.junit.jupiter.api.Test;
+import org.junit.jupiter.api.*;
 
-/** A file {@code memory} or {@code threads} denies that while it exists; a file {@code once} denies memory once. */
+/** While a file {@code memory} or {@code threads} exists, that is denied; a file {@code once} denies memory once. */
 @Tag("denied")
 class DeniedTest {
     private static final Path FOLDER = Path.of(System.getenv().getOrDefault("DENIED", "."));
-    private final PasswordHasher hasher =
-        new PasswordHasher(PasswordHasherTest.SMALL.withMemory(32 * 1024).withLanes(4));
+    private final PasswordHasher hasher = new PasswordHasher(SMALL.withMemory(32 * 1024).withLanes(4));
     private final HashQueue queue = new HashQueue(2, 4);
+    private final String stored = hasher.hash(new byte[0]);
 
     private static Path deny(String name) throws IOException {
         return Files.createFile(FOLDER.resolve(name));
@@ -46,27 +43,26 @@ class DeniedTest {
 
     @Test
     void withoutMemoryACallFailsAndItsPlaceIsFree() throws IOException {
-        String stored = hasher.hash(new byte[0]);
         Path denied = deny("memory");
         for (int call = 0; call < 7; call++) {
-            PasswordHasherTest.assertFails(
-                Argon2Exception.OUT_OF_MEMORY, () -> queue.run(() -> hasher.hash(new byte[0])));
+            assertFails(OUT_OF_MEMORY, () -> queue.run(() -> hasher.hash(new byte[0])));
         }
-        PasswordHasherTest.assertFails(Argon2Exception.OUT_OF_MEMORY, () -> hasher.verify(stored, new byte[0]));
+        assertFails(OUT_OF_MEMORY, () -> hasher.verify(stored, new byte[0]));
         Files.delete(denied);
         assertTrue(queue.run(() -> hasher.verify(stored, new byte[0])));
     }
 
     @Test
     void withoutThreadsCallsWaitForThoseThatThereAre() throws IOException {
-        String stored = hasher.hash(new byte[0]);
         Path denied = deny("threads");
-        PasswordHasherTest.assertFails(Argon2Exception.BUSY, () -> queue.submit(() -> ""));
+        for (int call = 0; call < 7; call++) {
+            assertFails(BUSY, () -> queue.submit(() -> ""));
+        }
         assertTrue(hasher.verify(stored, new byte[0])); // one thread fills all lanes
         Files.delete(denied);
         assertTrue(queue.run(() -> hasher.verify(stored, new byte[0])));
         deny("threads");
-        CompletableFuture<String> first = queue.submit(() -> PasswordHasherTest.ENDLESS.hash(new byte[0]));
+        CompletableFuture<String> first = queue.submit(() -> ENDLESS.hash(new byte[0]));
         CompletableFuture<Boolean> second = queue.submit(() -> hasher.verify(stored, new byte[0]));
         assertFalse(second.isDone());
         first.cancel(true);

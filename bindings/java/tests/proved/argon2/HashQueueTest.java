@@ -1,35 +1,25 @@
 package proved.argon2;
 
-import static org.junit.jupiter.api.Assertions.assertArrayEquals;
-import static org.junit.jupiter.api.Assertions.assertEquals;
-import static org.junit.jupiter.api.Assertions.assertFalse;
-import static org.junit.jupiter.api.Assertions.assertNotEquals;
-import static org.junit.jupiter.api.Assertions.assertNull;
-import static org.junit.jupiter.api.Assertions.assertThrows;
-import static org.junit.jupiter.api.Assertions.assertTrue;
+import static org.junit.jupiter.api.Assertions.*;
+import static proved.argon2.Argon2Exception.*;
+import static proved.argon2.PasswordHasherTest.*;
 
 import java.io.IOException;
 import java.lang.ref.WeakReference;
 import java.time.Duration;
 import java.util.List;
-import java.util.concurrent.CancellationException;
-import java.util.concurrent.CompletableFuture;
-import java.util.concurrent.CompletionException;
-import java.util.concurrent.CountDownLatch;
-import java.util.concurrent.ExecutionException;
-import java.util.concurrent.TimeUnit;
-import java.util.concurrent.TimeoutException;
-import java.util.function.BooleanSupplier;
-import java.util.function.Supplier;
-import org.junit.jupiter.api.AfterEach;
-import org.junit.jupiter.api.Test;
-import org.junit.jupiter.api.Timeout;
+import java.util.concurrent.*;
+import java.util.function.*;
+import org.junit.jupiter.api.*;
+import org.junit.jupiter.params.ParameterizedTest;
+import org.junit.jupiter.params.provider.ValueSource;
 
 @Timeout(60)
 class HashQueueTest {
-    private static final Supplier<String> ENDLESS = () -> PasswordHasherTest.ENDLESS.hash(new byte[8]);
-    private final PasswordHasher hasher = new PasswordHasher(PasswordHasherTest.SMALL);
+    private static final Supplier<String> ENDLESS_HASH = () -> ENDLESS.hash(new byte[8]);
+    private final PasswordHasher hasher = new PasswordHasher(SMALL);
     private final HashQueue queue = new HashQueue(1, 1, Duration.ofMillis(500));
+    private final CompletableFuture<Void> isWatched = new CompletableFuture<>();
 
     private static void await(BooleanSupplier condition) throws InterruptedException {
         while (!condition.getAsBoolean()) {
@@ -38,21 +28,19 @@ class HashQueueTest {
     }
 
     /** A result must come within seconds: a hang is a failure. */
-    private static <T> T soon(CompletableFuture<T> future) throws InterruptedException {
-        try {
-            return future.get(10, TimeUnit.SECONDS);
-        } catch (TimeoutException error) {
-            throw new AssertionError("the queue hangs", error);
-        } catch (ExecutionException error) {
-            throw new CompletionException(error.getCause());
-        }
+    private static <T> T soon(CompletableFuture<T> future) {
+        return future.copy().orTimeout(10, TimeUnit.SECONDS).join();
     }
 
-    private static void await(CountDownLatch latch) {
-        try {
-            latch.await();
-        } catch (InterruptedException error) {
-            throw new AssertionError(error);
+    /** Repeats a call while the queue is busy: a call that was stopped ends after its slice, and not at once. */
+    private static <T> T onceThereIsPlace(Supplier<T> call) throws InterruptedException {
+        while (true) {
+            try {
+                return call.get();
+            } catch (Argon2Exception busy) {
+                assertEquals(BUSY, busy.number());
+                TimeUnit.MILLISECONDS.sleep(2);
+            }
         }
     }
 
@@ -64,178 +52,52 @@ class HashQueueTest {
         return Thread.getAllStackTraces().keySet().stream().filter(HashQueue.Worker.class::isInstance).count();
     }
 
+    /** Submits a call that waits until the test has attached callbacks and completes {@link #isWatched}. */
+    private <T> CompletableFuture<T> submitHeld(Supplier<T> call) {
+        return queue.submit(() -> {
+            soon(isWatched);
+            return call.get();
+        });
+    }
+
     /** A call that computes until it is stopped. */
     private CompletableFuture<String> computing() throws InterruptedException {
-        CountDownLatch hasBegun = new CountDownLatch(1);
-        CompletableFuture<String> future = queue.submit(() -> {
-            hasBegun.countDown();
-            return ENDLESS.get();
-        });
-        hasBegun.await();
+        CompletableFuture<Boolean> hasBegun = new CompletableFuture<>();
+        CompletableFuture<String> future = onceThereIsPlace(() -> queue.submit(() -> {
+            hasBegun.complete(true);
+            return ENDLESS_HASH.get();
+        }));
+        soon(hasBegun);
         return future;
     }
 
     /** One call computes, one waits, and there is place for no more. */
     private void assertHasBothPlaces() throws InterruptedException {
-        CompletableFuture<String> first = submitOnceThereIsPlace();
+        CompletableFuture<String> first = computing();
         CompletableFuture<String> second = queue.submit(() -> hasher.hash(new byte[0]));
-        PasswordHasherTest.assertFails(Argon2Exception.BUSY, () -> queue.submit(() -> ""));
+        assertFails(BUSY, () -> queue.submit(() -> ""));
         assertFalse(first.isDone() || second.isDone());
         first.cancel(true);
-        assertTrue(hasher.verify(second.join(), new byte[0]));
-    }
-
-    /** A call that was stopped ends after its slice, and not at once. */
-    private CompletableFuture<String> submitOnceThereIsPlace() throws InterruptedException {
-        while (true) {
-            try {
-                return computing();
-            } catch (Argon2Exception busy) {
-                TimeUnit.MILLISECONDS.sleep(2);
-            }
-        }
-    }
-
-    @AfterEach
-    void allThreadsEnd() throws InterruptedException {
-        queue.close();
-        await(() -> threads() == 0);
-        PasswordHasherTest.assertFails(Argon2Exception.BUSY, () -> queue.submit(() -> ""));
-    }
-
-    @Test
-    void resultsAndErrorsArePassedOn() {
-        String stored = queue.run(() -> hasher.hash("password".toCharArray()));
-        assertTrue(queue.submit(() -> hasher.verifyAndUpdate(stored, "password".toCharArray())).join().matches());
-        PasswordHasherTest.assertFails(Argon2Exception.DECODING_FAIL, () -> queue.run(() -> hasher.needsRehash("")));
-        assertThrows(StackOverflowError.class, () -> queue.run(() -> {
-            throw new StackOverflowError();
-        }));
-        assertThrows(CompletionException.class, queue.submit(() -> hasher.needsRehash(""))::join);
-        assertThrows(IllegalArgumentException.class, () -> new HashQueue(0, 1));
-        assertThrows(IllegalArgumentException.class, () -> new HashQueue(1, -1));
-    }
-
-    @Test
-    void noMoreCallsThanAllowedComputeAndWait() throws InterruptedException {
-        for (int round = 0; round < 3; round++) {
-            assertHasBothPlaces();
-        }
-    }
-
-    @Test
-    void aCancelledCallThatWaitsGivesBackItsPlace() throws InterruptedException {
-        CompletableFuture<String> first = computing();
-        for (int round = 0; round < 3; round++) {
-            CompletableFuture<String> second = queue.submit(ENDLESS);
-            assertTrue(second.cancel(false));
-        }
-        assertTrue(queue.submit(() -> "").completeExceptionally(new TimeoutException()));
-        first.cancel(true);
-        assertHasBothPlaces();
-    }
-
-    /** The user's callbacks run before those of the queue. */
-    @Test
-    void aCancelledCallThatWaitsHasNoPlaceInItsCallbacks() throws InterruptedException {
-        CompletableFuture<String> first = computing();
-        CompletableFuture<String> second = queue.submit(ENDLESS);
-        CompletableFuture<String> third = new CompletableFuture<>();
-        second.whenComplete((value, error) -> {
-            CompletableFuture<String> next = queue.submit(() -> "next");
-            PasswordHasherTest.assertFails(Argon2Exception.BUSY, () -> queue.submit(() -> ""));
-            next.thenAccept(third::complete);
-        });
-        second.cancel(true);
-        first.cancel(true);
-        assertEquals("next", third.orTimeout(10, TimeUnit.SECONDS).join());
-        assertHasBothPlaces();
-    }
-
-    @Test
-    void asManyCallsAsANumberCanCountMayWait() {
-        for (int concurrency : new int[] {1, 2, 1 << 29, Integer.MAX_VALUE}) {
-            try (HashQueue large = new HashQueue(concurrency, Integer.MAX_VALUE)) {
-                assertEquals("", large.run(() -> ""));
-            }
-        }
-    }
-
-    /** A callback's exception is wrapped in another one, for which there is no memory here. */
-    @Test
-    void aThreadSurvivesThatMemoryRunsOutAfterItsCall() throws InterruptedException {
-        for (boolean isError : new boolean[] {false, true}) {
-            CountDownLatch isWatched = new CountDownLatch(1);
-            CompletableFuture<String> first = queue.submit(() -> {
-                await(isWatched);
-                if (isError) {
-                    throw new OutOfMemoryError("for a test");
-                }
-                return "first";
-            });
-            CompletableFuture<Boolean> earlier = first.handle((value, error) -> error == null);
-            first.whenComplete((value, error) -> {
-                throw new IllegalStateException() {
-                    private static final long serialVersionUID = 1;
-
-                    @Override
-                    public String toString() {
-                        throw new OutOfMemoryError("for a test");
-                    }
-                };
-            });
-            isWatched.countDown();
-            assertEquals(!isError, soon(earlier)); // it is called after the later one
-            assertEquals("second", soon(queue.submit(() -> "second")));
-        }
-        assertHasBothPlaces();
-    }
-
-    @Test
-    void aCallCanRunAnotherInItsPlace() throws InterruptedException {
-        assertEquals("inner", soon(queue.submit(() -> queue.run(() -> queue.run(() -> "inner")))));
-        try (HashQueue other = new HashQueue(1, 0)) {
-            Thread own = soon(queue.submit(Thread::currentThread));
-            assertEquals(own, soon(queue.submit(() -> queue.run(Thread::currentThread))));
-            assertNotEquals(own, soon(queue.submit(() -> other.run(Thread::currentThread))));
-        }
-    }
-
-    /** It has no Argon2Exception STOPPED, since nobody has stopped it. */
-    @Test
-    void aCallbackInTheThreadCanHash() throws InterruptedException {
-        CountDownLatch isWatched = new CountDownLatch(1);
-        CompletableFuture<Integer> first = queue.submit(() -> {
-            await(isWatched);
-            return 1;
-        });
-        CompletableFuture<String> second = first.thenApply(value -> {
-            assertTrue(Thread.currentThread() instanceof HashQueue.Worker);
-            return hasher.hash(new byte[0]);
-        });
-        isWatched.countDown();
         assertTrue(hasher.verify(soon(second), new byte[0]));
     }
 
-    @Test
-    void anEndedCallHasNoPlaceInItsCallbacks() throws InterruptedException {
-        CountDownLatch isWatched = new CountDownLatch(1);
-        CompletableFuture<Void> first = queue.submit(() -> {
-            await(isWatched);
-            return null;
-        });
-        CompletableFuture<List<CompletableFuture<String>>> next =
-            first.thenApply(value -> List.of(queue.submit(() -> "second"), queue.submit(() -> "third")));
-        isWatched.countDown();
-        assertEquals(List.of("second", "third"), soon(next).stream().map(CompletableFuture::join).toList());
+    @AfterEach
+    @Timeout(30)
+    void allThreadsEnd() throws InterruptedException {
+        queue.close();
+        await(() -> threads() == 0);
+        assertFails(BUSY, () -> queue.submit(() -> ""));
     }
 
     @Test
-    void whatACallThrowsIsThrown() {
+    void whatACallReturnsOrThrowsIsPassedOn() {
+        String stored = queue.run(() -> hasher.hash("password".toCharArray()));
+        assertTrue(soon(queue.submit(() -> hasher.verifyAndUpdate(stored, "password".toCharArray()))).matches());
+        assertThrows(CompletionException.class, queue.submit(() -> hasher.needsRehash(""))::join);
+        assertFails(DECODING_FAIL, () -> queue.run(() -> hasher.needsRehash("")));
         IOException cause = new IOException();
-        CompletionException wrapped = assertThrows(CompletionException.class,
-            () -> queue.run(() -> CompletableFuture.failedFuture(cause).join()));
-        assertEquals(cause, wrapped.getCause());
+        assertEquals(cause, assertThrows(CompletionException.class,
+            () -> queue.run(() -> CompletableFuture.failedFuture(cause).join())).getCause());
         for (Throwable thrown : List.of(
                 new IllegalStateException(), new CancellationException(), new StackOverflowError())) {
             Throwable caught = assertThrows(thrown.getClass(), () -> queue.run(() -> {
@@ -249,63 +111,120 @@ class HashQueueTest {
     }
 
     @Test
-    void aCallIsNotInterruptedByTheLastOne() throws InterruptedException {
-        CountDownLatch isWatched = new CountDownLatch(1);
-        CompletableFuture<Integer> first = queue.submit(() -> {
-            await(isWatched);
-            Thread.currentThread().interrupt();
-            return 1;
-        });
-        CompletableFuture<Boolean> inCallback = first.thenApply(value -> {
-            boolean wasInterrupted = Thread.currentThread().isInterrupted();
-            Thread.currentThread().interrupt();
-            return wasInterrupted;
-        });
-        CompletableFuture<Boolean> inNext = queue.submit(() -> Thread.currentThread().isInterrupted());
-        isWatched.countDown();
-        assertFalse(soon(inCallback));
-        assertFalse(soon(inNext));
+    void theLargestIntIsAValidNumberOfWaitingCalls() {
+        for (int concurrency : new int[] {1, 2, 1 << 29, Integer.MAX_VALUE}) {
+            try (HashQueue large = new HashQueue(concurrency, Integer.MAX_VALUE)) {
+                assertEquals("", large.run(() -> ""));
+            }
+        }
+        assertThrows(IllegalArgumentException.class, () -> new HashQueue(0, 1));
+        assertThrows(IllegalArgumentException.class, () -> new HashQueue(1, -1));
     }
 
-    /** Neither the thread, which is idle now, nor the future refers to it. */
+    /** Also in its callbacks: the user's run before those of the queue. */
     @Test
-    void nothingRefersToAPasswordAfterTheCall() throws InterruptedException {
-        byte[] password = new byte[8];
-        WeakReference<byte[]> reference = new WeakReference<>(password);
-        try (HashQueue other = new HashQueue(1, 0, Duration.ofMinutes(5))) {
-            CompletableFuture<Integer> future = submitWith(other, password);
-            assertEquals(8, soon(future));
-            password = null;
-            assertForgotten(reference);
-            assertTrue(future.isDone() && threads() == 1);
+    void aCancelledCallThatWaitsGivesBackItsPlace() throws InterruptedException {
+        CompletableFuture<String> first = computing();
+        for (int round = 0; round < 3; round++) {
+            assertTrue(queue.submit(ENDLESS_HASH).cancel(false));
+        }
+        assertTrue(queue.submit(() -> "").completeExceptionally(new TimeoutException()));
+        CompletableFuture<String> second = queue.submit(ENDLESS_HASH);
+        CompletableFuture<String> next = second.handle((value, error) -> {
+            CompletableFuture<String> third = queue.submit(() -> "third");
+            assertFails(BUSY, () -> queue.submit(() -> ""));
+            return third;
+        }).thenCompose(Function.identity());
+        second.cancel(true);
+        first.cancel(true);
+        assertEquals("third", soon(next));
+        assertHasBothPlaces();
+    }
+
+    /** A callback's exception is wrapped in another one, for which there is no memory here. */
+    @ParameterizedTest
+    @ValueSource(booleans = {false, true})
+    void aThreadSurvivesMemoryRunningOutAfterItsCall(boolean isError) throws InterruptedException {
+        CompletableFuture<String> first = submitHeld(() -> {
+            if (isError) {
+                throw new OutOfMemoryError("for a test");
+            }
+            return "first";
+        });
+        CompletableFuture<Boolean> earlier = first.handle((value, error) -> error == null);
+        first.whenComplete((value, error) -> {
+            throw new IllegalStateException() {
+                private static final long serialVersionUID = 1;
+
+                @Override
+                public String toString() {
+                    throw new OutOfMemoryError("for a test");
+                }
+            };
+        });
+        isWatched.complete(null);
+        assertEquals(!isError, soon(earlier)); // it is called after the later one
+        assertEquals("second", soon(queue.submit(() -> "second")));
+        assertHasBothPlaces();
+    }
+
+    @Test
+    void aCallCanRunAnotherInItsPlace() {
+        assertEquals("inner", soon(queue.submit(() -> queue.run(() -> queue.run(() -> "inner")))));
+        try (HashQueue other = new HashQueue(1, 0)) {
+            Thread own = soon(queue.submit(Thread::currentThread));
+            assertEquals(own, soon(queue.submit(() -> queue.run(Thread::currentThread))));
+            assertNotEquals(own, soon(queue.submit(() -> other.run(Thread::currentThread))));
         }
     }
 
+    /** They run after the call's end: the place is free, and no hash is stopped. */
     @Test
-    void nothingRefersToThePasswordOfACancelledCall() throws InterruptedException {
+    void callbacksInTheThreadAreNoPartOfTheCall() {
+        CompletableFuture<String> first = submitHeld(() -> {
+            Thread.currentThread().interrupt();
+            return hasher.hash(new byte[0]);
+        });
+        CompletableFuture<List<CompletableFuture<Boolean>>> next = first.thenApply(stored -> {
+            assertTrue(Thread.currentThread() instanceof HashQueue.Worker && !Thread.currentThread().isInterrupted());
+            assertTrue(hasher.verify(stored, new byte[0]));
+            Thread.currentThread().interrupt();
+            Supplier<Boolean> isInterrupted = () -> Thread.currentThread().isInterrupted();
+            return List.of(queue.submit(isInterrupted), queue.submit(isInterrupted));
+        });
+        isWatched.complete(null);
+        assertEquals(List.of(false, false), soon(next).stream().map(HashQueueTest::soon).toList());
+    }
+
+    /** Neither the thread, which is idle or computes another, nor the future refers to it. */
+    @Test
+    void nothingRefersToAPasswordAfterTheCall() throws InterruptedException {
+        try (HashQueue other = new HashQueue(1, 0, Duration.ofMinutes(5))) {
+            assertForgets(other, HashQueueTest::soon);
+            assertEquals(1, threads());
+        }
         CompletableFuture<String> first = computing();
-        byte[] password = new byte[8];
-        WeakReference<byte[]> reference = new WeakReference<>(password);
-        assertTrue(submitWith(queue, password).cancel(true));
-        password = null;
-        assertForgotten(reference);
+        assertForgets(queue, future -> future.cancel(true));
         assertFalse(first.isDone());
     }
 
-    private static void assertForgotten(WeakReference<byte[]> reference) throws InterruptedException {
+    private static void assertForgets(HashQueue queue, Consumer<CompletableFuture<Integer>> end)
+            throws InterruptedException {
+        byte[] password = new byte[8];
+        WeakReference<byte[]> reference = new WeakReference<>(password);
+        CompletableFuture<Integer> future = queue.submit(password::hashCode);
+        password = null;
+        end.accept(future);
         for (int round = 0; round < 50 && reference.get() != null; round++) {
             TimeUnit.MILLISECONDS.sleep(2);
             System.gc();
         }
         assertNull(reference.get());
-    }
-
-    private static CompletableFuture<Integer> submitWith(HashQueue queue, byte[] password) {
-        return queue.submit(() -> password.length);
+        assertTrue(future.isDone());
     }
 
     @Test
-    void aLockOfTheUserDoesNotBlockTheQueue() throws InterruptedException {
+    void aLockOfTheUserDoesNotBlockTheQueue() {
         synchronized (queue) {
             assertEquals("", soon(CompletableFuture.supplyAsync(() -> queue.run(() -> ""))));
         }
@@ -318,85 +237,73 @@ class HashQueueTest {
         CompletableFuture<String> late = computing().orTimeout(50, TimeUnit.MILLISECONDS);
         assertTrue(assertThrows(CompletionException.class, late::join).getCause() instanceof TimeoutException);
         assertHasBothPlaces();
-        assertTrue(submitOnceThereIsPlace().complete("done"));
+        assertTrue(computing().complete("done"));
         assertHasBothPlaces();
     }
 
+    /** Also if the call waits, and if it is made directly, which pins the carrier of a virtual thread. */
     @Test
-    void anInterruptedCallerStopsItsCall() throws InterruptedException {
+    void anInterruptedCallerStopsItsCall() throws InterruptedException, ReflectiveOperationException {
         CompletableFuture<String> first = computing();
-        for (boolean isQueued : new boolean[] {true, false}) {
-            boolean[] wasStopped = new boolean[1];
-            Thread caller = new Thread(() -> {
-                PasswordHasherTest.assertFails(Argon2Exception.STOPPED, () -> queue.run(ENDLESS));
-                wasStopped[0] = Thread.interrupted();
-            });
-            if (!isQueued) {
-                first.cancel(true);
-            }
-            caller.start();
-            TimeUnit.MILLISECONDS.sleep(100);
-            caller.interrupt();
-            caller.join();
-            assertTrue(wasStopped[0]);
-        }
+        assertIsStopped(() -> queue.run(ENDLESS_HASH));
+        first.cancel(true);
+        assertIsStopped(() -> queue.run(ENDLESS_HASH));
+        assertIsStopped(ENDLESS_HASH);
         assertHasBothPlaces();
     }
 
-    /** Also if the call is made directly, which pins the carrier. Java 17 has no virtual threads. */
-    @Test
-    void anInterruptedVirtualThreadStopsItsCall() throws ReflectiveOperationException, InterruptedException {
-        for (Supplier<String> call : List.<Supplier<String>>of(ENDLESS, () -> queue.run(ENDLESS))) {
-            CompletableFuture<Integer> number = new CompletableFuture<>();
-            Runnable body = () -> number.complete(assertThrows(Argon2Exception.class, call::get).number());
+    /** Interrupts a thread that makes a call. Java 17 has no virtual threads. */
+    private static void assertIsStopped(Supplier<String> call)
+            throws InterruptedException, ReflectiveOperationException {
+        for (boolean isVirtual : new boolean[] {false, Runtime.version().feature() >= 21}) {
+            CompletableFuture<Boolean> isInterrupted = new CompletableFuture<>();
+            Runnable body = () -> {
+                assertFails(STOPPED, call::get);
+                isInterrupted.complete(Thread.interrupted());
+            };
             Thread thread = new Thread(body);
-            if (Runtime.version().feature() < 21) {
-                thread.start();
-            } else {
+            if (isVirtual) {
                 thread = (Thread) Thread.class.getMethod("startVirtualThread", Runnable.class).invoke(null, body);
+            } else {
+                thread.start();
             }
             TimeUnit.MILLISECONDS.sleep(100);
-            assertFalse(number.isDone());
+            assertFalse(isInterrupted.isDone());
             thread.interrupt();
-            assertEquals(Argon2Exception.STOPPED, number.join());
+            assertTrue(soon(isInterrupted));
         }
-        assertHasBothPlaces();
     }
 
     @Test
     void closingCancelsAllCalls() throws InterruptedException {
         CompletableFuture<String> first = computing();
-        CompletableFuture<String> second = queue.submit(ENDLESS);
+        CompletableFuture<String> second = queue.submit(ENDLESS_HASH);
         queue.close();
         assertThrows(CancellationException.class, first::join);
         assertThrows(CancellationException.class, second::join);
     }
 
     @Test
-    void whoWaitsForAClosedQueueIsStopped() throws InterruptedException {
-        CountDownLatch hasBegun = new CountDownLatch(1);
-        CompletableFuture<Void> caller = CompletableFuture.runAsync(
-            () -> PasswordHasherTest.assertFails(Argon2Exception.STOPPED, () -> queue.run(() -> {
-                hasBegun.countDown();
-                return ENDLESS.get();
-            })));
-        hasBegun.await();
+    void whoWaitsForAClosedQueueIsStopped() {
+        CompletableFuture<Boolean> hasBegun = new CompletableFuture<>();
+        CompletableFuture<Void> caller = CompletableFuture.runAsync(() -> assertFails(STOPPED, () -> queue.run(() -> {
+            hasBegun.complete(true);
+            return ENDLESS_HASH.get();
+        })));
+        soon(hasBegun);
         queue.close();
-        caller.orTimeout(10, TimeUnit.SECONDS).join();
+        soon(caller);
     }
 
     @Test
     void aThreadReusesItsBufferAndClearsIt() throws IOException, InterruptedException {
         assertEquals(0, queue.run(HashQueueTest::kept)[1]);
-        long[] small = queue.run(() -> {
-            hasher.hash("password".toCharArray());
-            return kept();
-        });
-        assertEquals(64 * 1024, small[1]);
-        assertArrayEquals(new byte[(int) small[1]], Memory.read(small[0], (int) small[1]));
+        queue.run(() -> hasher.hash("password".toCharArray()));
+        long[] small = queue.run(HashQueueTest::kept);
+        assertCleared(64 * 1024, small);
         for (int call = 0; call < 5; call++) {
             queue.run(() -> hasher.verifyUnknown(new byte[0]));
-            queue.run(() -> hasher.verify(PasswordHasherTest.STORED, new byte[0])); // needs more
+            queue.run(() -> hasher.verify(STORED, new byte[0])); // needs more
             assertArrayEquals(small, queue.run(HashQueueTest::kept));
         }
         HashQueue.Worker thread = (HashQueue.Worker) queue.run(Thread::currentThread);
@@ -404,29 +311,22 @@ class HashQueueTest {
         await(() -> thread.kept[1] > small[1]);
         TimeUnit.MILLISECONDS.sleep(20);
         stopped.cancel(true);
-        long[] large = keptOnceThereIsPlace();
-        assertEquals(1024 * 1024, large[1]);
-        assertArrayEquals(new byte[(int) large[1]], Memory.read(large[0], (int) large[1]));
+        assertCleared(1024 * 1024, onceThereIsPlace(() -> queue.run(HashQueueTest::kept)));
     }
 
-    private long[] keptOnceThereIsPlace() throws InterruptedException {
-        while (true) {
-            try {
-                return queue.run(HashQueueTest::kept);
-            } catch (Argon2Exception busy) {
-                TimeUnit.MILLISECONDS.sleep(2);
-            }
-        }
+    private static void assertCleared(int length, long[] kept) throws IOException {
+        assertEquals(length, kept[1]);
+        assertArrayEquals(new byte[length], MemoryTest.read(kept[0], length));
     }
 
     @Test
     void anIdleThreadEndsAndFreesItsBuffer() throws InterruptedException, IOException {
-        PasswordHasher large = new PasswordHasher(PasswordHasherTest.SMALL.withMemory(128 * 1024).withPasses(1));
-        long before = Memory.kib("VmSize");
+        PasswordHasher large = new PasswordHasher(SMALL.withMemory(128 * 1024).withPasses(1));
+        long before = MemoryTest.kib("VmSize");
         queue.run(() -> large.hash(new byte[0]));
-        assertTrue(threads() == 1 && Memory.kib("VmSize") > before + 120 * 1024);
+        assertTrue(threads() == 1 && MemoryTest.kib("VmSize") > before + 120 * 1024);
         await(() -> threads() == 0);
-        assertTrue(Memory.kib("VmSize") < before + 100 * 1024, Memory.kib("VmSize") + " " + before);
+        assertTrue(MemoryTest.kib("VmSize") < before + 100 * 1024, MemoryTest.kib("VmSize") + " " + before);
         assertTrue(hasher.verify(queue.run(() -> hasher.hash(new byte[0])), new byte[0]));
     }
 
@@ -434,7 +334,7 @@ class HashQueueTest {
     void aQueueHasTheSizeOfTheMachine() {
         Settings settings = Settings.owasp2();
         int processors = Runtime.getRuntime().availableProcessors();
-        assertEquals(processors, callsOf(HashQueue.of(settings, Long.MAX_VALUE)) / 17);
+        assertEquals(17 * processors, callsOf(HashQueue.of(settings, Long.MAX_VALUE)));
         assertEquals(17, callsOf(HashQueue.of(settings, 0)));
         assertEquals(17, callsOf(HashQueue.of(settings, (19456 << 10) * 2L - 1)));
         assertEquals(17, callsOf(HashQueue.of(settings.withLanes(processors), Long.MAX_VALUE)));
@@ -444,9 +344,9 @@ class HashQueueTest {
         try (other) {
             for (int calls = 0;; calls++) {
                 try {
-                    other.submit(ENDLESS);
+                    other.submit(ENDLESS_HASH);
                 } catch (Argon2Exception busy) {
-                    assertEquals(Argon2Exception.BUSY, busy.number());
+                    assertEquals(BUSY, busy.number());
                     return calls;
                 }
             }

@@ -1,18 +1,12 @@
 package proved.argon2;
 
-import static org.junit.jupiter.api.Assertions.assertEquals;
-import static org.junit.jupiter.api.Assertions.assertFalse;
-import static org.junit.jupiter.api.Assertions.assertThrows;
-import static org.junit.jupiter.api.Assertions.assertTrue;
+import static org.junit.jupiter.api.Assertions.*;
 
 import java.io.IOException;
 import java.nio.charset.StandardCharsets;
-import java.nio.file.Files;
-import java.nio.file.Path;
-import java.util.Base64;
-import java.util.HexFormat;
-import java.util.List;
-import java.util.Locale;
+import java.nio.file.*;
+import java.util.*;
+import java.util.function.Supplier;
 import org.bouncycastle.crypto.generators.Argon2BytesGenerator;
 import org.bouncycastle.crypto.params.Argon2Parameters;
 import org.junit.jupiter.api.Test;
@@ -21,15 +15,8 @@ import org.junit.jupiter.params.provider.CsvSource;
 
 /** The hashes of other implementations. */
 class HashesTest {
-    private static final byte[] PASSWORD = bytes("password");
-    private static final String ERROR = "ERR ";
-
     static byte[] bytes(String text) {
         return text.getBytes(StandardCharsets.UTF_8);
-    }
-
-    private static List<String> lines(String file) throws IOException {
-        return Files.readAllLines(Path.of(file));
     }
 
     private static String base64(byte[] bytes) {
@@ -44,6 +31,15 @@ class HashesTest {
         return digits.equals("-") ? new byte[0] : HexFormat.of().parseHex(digits);
     }
 
+    /** What a call returns, or its error as the tables have it. */
+    private static String outcome(Supplier<Object> call) {
+        try {
+            return String.valueOf(call.get());
+        } catch (Argon2Exception error) {
+            return "ERR " + error.getMessage();
+        }
+    }
+
     /** A line: variant, version, passes, memory, lanes, length, four inputs, and the tag or an error. */
     private static void compare(String line) {
         String[] words = line.split(" ", 11);
@@ -51,15 +47,13 @@ class HashesTest {
         Version version = words[1].equals("16") ? Version.VERSION_10 : Version.VERSION_13;
         byte[] password = hex(words[6]);
         byte[] salt = hex(words[7]);
-        Settings[] made = new Settings[1];
-        try {
-            made[0] = new Settings(variant, version, number(words[3]), number(words[2]), number(words[4]),
-                number(words[5]), salt.length);
-        } catch (Argon2Exception error) {
-            assertEquals(words[10], ERROR + error.getMessage(), line);
+        Supplier<Settings> settings = () -> new Settings(variant, version, number(words[3]), number(words[2]),
+            number(words[4]), number(words[5]), salt.length);
+        if (words[10].startsWith("ERR")) {
+            assertEquals(words[10], outcome(settings::get), line);
             return;
         }
-        PasswordHasher bare = new PasswordHasher(made[0]).withAssociatedData(hex(words[9]));
+        PasswordHasher bare = new PasswordHasher(settings.get()).withAssociatedData(hex(words[9]));
         PasswordHasher hasher = words[8].equals("-") ? bare : bare.withPepper(hex(words[8]));
         String expected = "$%s$v=%s$m=%s,t=%s,p=%s$%s$%s".formatted(
             words[0], words[1], words[3], words[2], words[4], base64(salt), base64(hex(words[10])));
@@ -74,32 +68,21 @@ class HashesTest {
 
     @Test
     void hashesEqualThoseOfOtherImplementations() throws IOException {
-        List<String> lines = lines(System.getProperty("vectors") + "/raw.txt");
-        assertEquals(240, lines.size());
-        lines.forEach(HashesTest::compare);
-    }
-
-    @Test
-    void randomHashesEqualThoseOfLibargon2() throws IOException {
-        List<String> lines = lines(System.getProperty("random"));
-        assertEquals(800, lines.size());
-        lines.forEach(HashesTest::compare);
+        for (String table : List.of(System.getProperty("vectors") + "/raw.txt", System.getProperty("random"))) {
+            List<String> lines = Files.readAllLines(Path.of(table));
+            assertEquals(table.endsWith("raw.txt") ? 240 : 800, lines.size());
+            lines.forEach(HashesTest::compare);
+        }
     }
 
     @Test
     void encodedHashesOfOtherImplementationsAreVerified() throws IOException {
-        List<String> lines = lines(System.getProperty("vectors") + "/texts.txt");
+        List<String> lines = Files.readAllLines(Path.of(System.getProperty("vectors"), "texts.txt"));
         assertEquals(147, lines.size());
         PasswordHasher hasher = new PasswordHasher().withLimits(Limits.NONE);
         for (String line : lines) {
             String[] parts = line.split("\t");
-            String found;
-            try {
-                found = String.valueOf(hasher.verify(parts[0], PASSWORD));
-            } catch (Argon2Exception error) {
-                found = ERROR + error.getMessage();
-            }
-            assertEquals(parts[1], found, line);
+            assertEquals(parts[1], outcome(() -> hasher.verify(parts[0], bytes("password"))), line);
         }
     }
 

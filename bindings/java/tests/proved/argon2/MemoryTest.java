@@ -1,19 +1,73 @@
 package proved.argon2;
 
-import static org.junit.jupiter.api.Assertions.assertFalse;
-import static org.junit.jupiter.api.Assertions.assertTrue;
+import static org.junit.jupiter.api.Assertions.*;
+import static proved.argon2.Argon2Exception.*;
+import static proved.argon2.PasswordHasherTest.*;
 
-import java.io.IOException;
+import java.io.*;
+import java.nio.file.*;
 import java.security.SecureRandom;
-import java.util.Arrays;
+import java.util.*;
 import java.util.function.Consumer;
 import org.junit.jupiter.api.Test;
 
 class MemoryTest {
+    private static final int CHUNK = 1 << 20;
     private static final int LENGTH = 96;
-    private static final int MIDDLE = 24; // (what frees memory writes to its beginning)
-    private final PasswordHasher hasher = new PasswordHasher(PasswordHasherTest.SMALL);
+    private static final int MIDDLE = 24; // (freeing memory overwrites its beginning)
+    private final PasswordHasher hasher = new PasswordHasher(SMALL);
     private final SecureRandom random = new SecureRandom();
+
+    /** The bytes at an address. */
+    static byte[] read(long address, int length) throws IOException {
+        try (RandomAccessFile memory = new RandomAccessFile("/proc/self/mem", "r")) {
+            byte[] bytes = new byte[length];
+            memory.seek(address);
+            memory.readFully(bytes);
+            return bytes;
+        }
+    }
+
+    /** The KiB of a row of /proc/self/status. */
+    static long kib(String row) throws IOException {
+        return Files.readAllLines(Path.of("/proc/self/status")).stream().filter(line -> line.startsWith(row + ":"))
+            .mapToLong(line -> Long.parseLong(line.replaceAll("\\D", ""))).findAny().orElseThrow();
+    }
+
+    /** Whether writable memory contains some bytes. Their complement is passed, so that this call adds no copy. */
+    private static boolean has(byte[] complement) throws IOException {
+        byte[] chunk = new byte[CHUNK + complement.length];
+        try (RandomAccessFile memory = new RandomAccessFile("/proc/self/mem", "r")) {
+            for (String line : Files.readAllLines(Path.of("/proc/self/maps"))) {
+                String[] words = line.split("[- ]");
+                if (!words[2].startsWith("rw") || line.contains("[v")) {
+                    continue;
+                }
+                long end = Long.parseUnsignedLong(words[1], 16);
+                for (long at = Long.parseUnsignedLong(words[0], 16); at < end; at += CHUNK) {
+                    memory.seek(at);
+                    int length = memory.read(chunk, 0, (int) Math.min(chunk.length, end - at));
+                    if (contains(chunk, length, complement)) {
+                        return true;
+                    }
+                }
+            }
+        }
+        return false;
+    }
+
+    private static boolean contains(byte[] chunk, int length, byte[] complement) {
+        for (int at = 0; at + complement.length <= length; at++) {
+            int same = 0;
+            while (same < complement.length && chunk[at + same] == (byte) ~complement[same]) {
+                same++;
+            }
+            if (same == complement.length) {
+                return true;
+            }
+        }
+        return false;
+    }
 
     /** Whether memory has the middle of a password, as bytes or as characters, after a call. */
     private boolean keeps(Consumer<char[]> call, boolean isCleared) throws IOException {
@@ -33,22 +87,22 @@ class MemoryTest {
         if (isCleared) {
             Arrays.fill(password, '\0');
         }
-        return Memory.has(bytes) || Memory.has(chars);
+        return has(bytes) || has(chars);
     }
 
     @Test
     void copiesOfPasswordsAreCleared() throws IOException {
         String stored = hasher.hash(new char[0]);
         assertTrue(keeps(password -> {}, false), "nothing is found");
-        assertFalse(keeps(hasher::hash, true));
-        assertFalse(keeps(password -> hasher.verify(stored, password), true));
-        assertFalse(keeps(hasher::verifyUnknown, true));
-        assertFalse(keeps(password -> PasswordHasherTest.assertFails(Argon2Exception.DECODING_FAIL,
-            () -> hasher.verify("x", password)), true));
-        assertFalse(keeps(password -> {
-            password[LENGTH - 1] = '\ud800';
-            PasswordHasherTest.assertFails(Argon2Exception.NOT_UNICODE, () -> hasher.hash(password));
-        }, true));
+        for (Consumer<char[]> call : List.<Consumer<char[]>>of(
+                hasher::hash, password -> hasher.verify(stored, password), hasher::verifyUnknown,
+                password -> assertFails(DECODING_FAIL, () -> hasher.verify("x", password)),
+                password -> {
+                    password[LENGTH - 1] = '\ud800';
+                    assertFails(NOT_UNICODE, () -> hasher.hash(password));
+                })) {
+            assertFalse(keeps(call, true));
+        }
     }
 
     @Test
@@ -59,15 +113,15 @@ class MemoryTest {
         try (HashQueue queue = new HashQueue(2, 0)) {
             for (int call = 0; call < 12_000; call++) {
                 queue.run(() -> hasher.verifyAndUpdate(stored, password));
-                PasswordHasherTest.assertFails(Argon2Exception.DECODING_FAIL, () -> hasher.verify("x", password));
+                assertFails(DECODING_FAIL, () -> hasher.verify("x", password));
                 if (call == 2000) {
                     System.gc();
-                    before = Memory.kib("VmRSS");
+                    before = kib("VmRSS");
                 }
             }
         }
         System.gc();
-        long grown = Memory.kib("VmRSS") - before;
+        long grown = kib("VmRSS") - before;
         assertTrue(grown < 40 * 1024, grown + " KiB");
     }
 }

@@ -1,8 +1,8 @@
 package proved.argon2;
 
-import static org.junit.jupiter.api.Assertions.assertEquals;
-import static org.junit.jupiter.api.Assertions.assertFalse;
-import static org.junit.jupiter.api.Assertions.assertTrue;
+import static org.junit.jupiter.api.Assertions.*;
+import static proved.argon2.Argon2Exception.*;
+import static proved.argon2.PasswordHasherTest.*;
 
 import java.util.Optional;
 import org.junit.jupiter.api.Test;
@@ -12,7 +12,7 @@ import proved.argon2.Peppers.Stored;
 class PeppersTest {
     private static final char[] PASSWORD = "password".toCharArray();
     private static final char[] WRONG = "Password".toCharArray();
-    private final PasswordHasher hasher = new PasswordHasher(PasswordHasherTest.SMALL);
+    private final PasswordHasher hasher = new PasswordHasher(SMALL);
     private final Pepper older = new Pepper("2025", HashesTest.bytes("old key"));
     private final Pepper newer = new Pepper("2026", HashesTest.bytes("new key"));
     private final Peppers peppers = new Peppers(hasher, newer, older);
@@ -23,8 +23,7 @@ class PeppersTest {
         assertEquals("2026", stored.id());
         assertTrue(hasher.withPepper(newer.key()).verify(stored.hash(), PASSWORD));
         assertFalse(hasher.verify(stored.hash(), PASSWORD));
-        assertEquals(new Verdict<>(true, Optional.empty()),
-            peppers.verifyAndUpdate("2026", stored.hash(), PASSWORD));
+        assertEquals(new Verdict<>(true, Optional.empty()), peppers.verifyAndUpdate("2026", stored.hash(), PASSWORD));
         assertFalse(peppers.verifyUnknown(PASSWORD));
     }
 
@@ -34,8 +33,7 @@ class PeppersTest {
         Verdict<Stored> verdict = peppers.verifyAndUpdate(stored.id(), stored.hash(), PASSWORD);
         assertTrue(verdict.matches() && verdict.update().orElseThrow().id().equals("2026"));
         assertTrue(peppers.verifyAndUpdate("2026", verdict.update().get().hash(), PASSWORD).matches());
-        assertEquals(new Verdict<>(false, Optional.empty()),
-            peppers.verifyAndUpdate(stored.id(), stored.hash(), WRONG));
+        assertEquals(new Verdict<>(false, Optional.empty()), peppers.verifyAndUpdate("2025", stored.hash(), WRONG));
         assertFalse(peppers.verifyAndUpdate("2026", stored.hash(), PASSWORD).matches());
     }
 
@@ -43,23 +41,21 @@ class PeppersTest {
     void anIdWithoutAKeyIsAnError() {
         String bare = hasher.hash(PASSWORD);
         for (String id : new String[] {"2024", "", null}) {
-            PasswordHasherTest.assertFails(Argon2Exception.UNKNOWN_PEPPER,
-                () -> peppers.verifyAndUpdate(id, bare, PASSWORD));
+            assertFails(UNKNOWN_PEPPER, () -> peppers.verifyAndUpdate(id, bare, PASSWORD));
         }
         Verdict<Stored> verdict = peppers.acceptUnpeppered().verifyAndUpdate(null, bare, PASSWORD);
         assertTrue(verdict.matches() && verdict.update().orElseThrow().id().equals("2026"));
         assertFalse(peppers.acceptUnpeppered().verifyAndUpdate(null, bare, WRONG).matches());
-        PasswordHasherTest.assertFails(Argon2Exception.UNKNOWN_PEPPER,
-            () -> peppers.acceptUnpeppered().verifyAndUpdate("2024", bare, PASSWORD));
+        assertFails(UNKNOWN_PEPPER, () -> peppers.acceptUnpeppered().verifyAndUpdate("2024", bare, PASSWORD));
     }
 
     @Test
     void wrongPeppersAreRejected() {
         for (Pepper[] wrong : new Pepper[][] {{}, {newer, newer}, {newer, new Pepper("a", new byte[0])},
             {new Pepper(null, newer.key())}}) {
-            PasswordHasherTest.assertFails(Argon2Exception.INVALID_PEPPERS, () -> new Peppers(hasher, wrong));
+            assertFails(INVALID_PEPPERS, () -> new Peppers(hasher, wrong));
         }
-        PasswordHasherTest.assertFails(Argon2Exception.INVALID_PEPPERS, () -> hasher.withPepper(new byte[0]));
+        assertFails(INVALID_PEPPERS, () -> hasher.withPepper(new byte[0]));
         assertFalse(newer.toString().contains("key]"));
     }
 }
