@@ -1,20 +1,20 @@
-"""Commits: the subject is an imperative of at most 72 characters, the body says why, and nothing is merged. A commit
-that removes more lines with checks than it adds, or rows of docs/promises-open.txt, says `Fewer checks: WHY`. Commits
-before BEGUN were judged when they landed."""
+"""Commits: the subject is the place and an imperative, in at most 72 characters, the body says why, and nothing is
+merged. A commit that removes more lines with checks than it adds, or rows of docs/promises-open.txt, says
+`Fewer checks: WHY`. Commits before BEGUN were judged when they landed."""
 
 import re
 
 import pytest
 from shared import run
 
-BEGUN, OPEN = '9eef5786', 'docs/promises-open.txt'
+BEGUN, OPEN = '7c9d68e1', 'docs/promises-open.txt'
 # A line with a check that a commit removes or adds: for pytest, C, Node, CTest, or Rattle (a test, a mutant, or a row,
 # which has a tab).
 CHECK = r'^{} *(?:(?:async )?def test_|assert\b|check\w*\(|test\(|judge\w*\(|in_c\(|test_of\w*\(|planted\(' \
         r'|#\[test\]|refused \w+$|\S.*\t)'
 PLACES = '.ci', 'bindings', 'crates'
-# A short subject that begins with no other form of a verb; `bring` only looks like one.
-SUBJECT = re.compile(r'(?=.{1,72}$)(?!(?:fix|features?|figures?)\b)'
+# A short subject: the place, and then no other form of a verb than the imperative; `bring` only looks like one.
+SUBJECT = re.compile(r'(?=.{1,72}$)[^:]+: (?!(?:fix|features?|figures?)\b)'
                      r'(?!(?!(?:bring|embed|need|feed|focus)\b)\w+(?:ing|ed|[^s]s) )\S+ \S', re.I)
 
 
@@ -41,7 +41,7 @@ def test_each_commit_says_what_and_why():
 
 
 @pytest.mark.parametrize('parents, subject, body', [
-    ('a b', 'Merge it', 'Why'), ('a', 'Add it', ''), ('a', 'Added it', 'Why'), ('a', f'Add {"it" * 40}', 'Why'),
-    ('a', 'Fix: add it', 'Why')])
+    ('a b', 'c: merge it', 'Why'), ('a', 'c: add it', ''), ('a', 'c: added it', 'Why'), ('a', 'Add it', 'Why'),
+    ('a', f'c: add {"it" * 40}', 'Why'), ('a', 'c driver: fix late threads', 'Why')])
 def test_a_wrong_commit_message_is_rejected(parents, subject, body):
-    assert is_well(['a'], 'Add it', 'Why') and not is_well(parents.split(), subject, body)
+    assert is_well(['a'], 'c: add it', 'Why') and not is_well(parents.split(), subject, body)
