@@ -14,7 +14,7 @@
 // # Threads
 //
 // A call of C occupies an operating-system thread until it returns, and the library starts a thread for each further
-// lane. [Hasher] says how many these are.
+// lane. [Hasher] says how many threads run.
 package argon2
 
 import (
@@ -27,8 +27,8 @@ func Hash(password []byte, settings Settings) (encoded string, err error) {
 	return run{settings: settings}.hash(password)
 }
 
-// HashRaw returns the tag (raw hash) of settings.HashLength bytes, for example to derive a key. The salt is used as it
-// is, whatever its length in the settings is.
+// HashRaw returns the tag (raw hash) of settings.HashLength bytes, for example to derive a key. settings.SaltLength has
+// no effect: the salt is used as it is.
 func HashRaw(password, salt []byte, settings Settings) ([]byte, error) {
 	return run{settings: settings}.compute(password, salt, false)
 }
@@ -59,8 +59,8 @@ func Key(password, salt []byte, time, memory uint32, threads uint8, keyLen uint3
 }
 
 // IDKey derives a key with Argon2id, as golang.org/x/crypto/argon2 does, and panics as that does if time or threads
-// is 0. It also panics with an [Error] if memory runs out, and below 8 KiB of memory per thread, 8 bytes of salt or 4
-// bytes of key: Argon2 defines no hash there, but that package returns bytes.
+// is 0. It also panics with an [Error] if memory runs out, or with less than 8 KiB of memory per thread, 8 bytes of
+// salt or 4 bytes of key: Argon2 has no such hash; x/crypto returns bytes.
 func IDKey(password, salt []byte, time, memory uint32, threads uint8, keyLen uint32) []byte {
 	return deriveKey(ID, password, salt, time, memory, threads, keyLen)
 }
@@ -86,7 +86,7 @@ type run struct {
 	settings Settings
 	limits   Limits
 	buffer   *buffer // where the calls compute, or nil: then each allocates its own memory
-	stop     *int32  // stops a call once it is not 0, or nil
+	stop     *int32  // nil, or stops a call once it is not 0
 }
 
 func (r run) hash(password []byte) (string, error) {
@@ -126,7 +126,7 @@ func (r run) verifyAndUpdate(encoded string, password, secret []byte, isOld bool
 
 func (r run) verifyUnknown(password []byte) (bool, error) {
 	r.settings.Threads = r.settings.threads(maxVerifyingThreads)
-	// Nobody learns the hash, so this salt serves.
+	// Nobody sees the hash: zeros suffice as salt.
 	tag, err := r.compute(password, make([]byte, r.settings.SaltLength), false)
 	for i := range tag {
 		tag[i] = 0

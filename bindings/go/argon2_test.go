@@ -26,7 +26,7 @@ func must[T any](value T, err error) T {
 	return value
 }
 
-// small returns settings whose hash takes little time, with a change.
+// small returns settings whose hash takes little time, after these changes.
 func small(changes ...func(*Settings)) Settings {
 	s := OWASP2()
 	s.Memory, s.Time = 64, 1

@@ -18,14 +18,14 @@ typedef struct {
 	size_t length;
 } go_bytes;
 
-// Stops a call once a number is not 0, which another thread of Go writes.
+// Stops a call once the number, which another Go thread writes, is not 0.
 static int must_stop(void *number, uint64_t done, uint64_t all)
 {
 	return __atomic_load_n((const int32_t *)number, __ATOMIC_RELAXED);
 }
 
 // Go may not pass a pointer to memory that contains pointers, as the options do. So these calls are passed the options
-// by value. Their argument of the progress callback is the number that stops the call, or null.
+// by value. options.arg, for the callback, points to the number that stops the call, or is null.
 
 static uint32_t go_argon2_hash(proved_argon2_options options, go_bytes pwd, go_bytes salt, go_bytes secret, go_bytes ad,
 	proved_argon2_settings settings, _Bool is_encoded, go_bytes out)
@@ -184,8 +184,8 @@ func errorOf(number C.uint32_t) error {
 	return Error(number)
 }
 
-// pass returns the address and the length of bytes. They have no pointers, so cgo checks nothing around them, such as
-// the other fields of a struct that contains a password.
+// pass returns the address and the length of bytes. Bytes contain no pointers, so cgo does not check
+// what surrounds them, such as other fields of a password's struct.
 func pass(b []byte) C.go_bytes {
 	if len(b) == 0 {
 		return C.go_bytes{}

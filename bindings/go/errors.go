@@ -44,6 +44,6 @@ var (
 	ErrUnknownPepper = errors.New("argon2: there is no pepper with this ID")
 	// ErrInvalidPeppers means that there is no pepper, an ID or a key is empty, or two peppers have the same ID.
 	ErrInvalidPeppers = errors.New("argon2: no pepper, an empty ID or key, or two peppers with the same ID")
-	// ErrTooSlow means that even the least settings for passwords take longer than [Tune] allows.
+	// ErrTooSlow means that even the weakest settings for passwords take longer than [Tune] allows.
 	ErrTooSlow = errors.New("argon2: a hash with the least settings takes longer")
 )

@@ -28,17 +28,17 @@ const idle = 10 * time.Second
 // # Buffers
 //
 // Each running hash uses a buffer of the Hasher, which is cleared after the hash and kept for the next one. There are
-// never more buffers than hashes at a time. A buffer that is not used for ten seconds is freed. A buffer has the size
-// that the settings of the Hasher need. If a stored hash needs more, or the system denies a buffer, the call allocates
-// its own memory, and frees it.
+// never more buffers than the concurrency. A buffer that is not used for ten seconds is freed. A buffer has at least
+// the size that the Hasher's settings need. If a stored hash needs more, or the system denies a buffer, the call
+// allocates its own memory, and frees it.
 type Hasher struct {
 	queue    *queue
 	settings Settings
 	limits   Limits
 }
 
-// NewHasher returns a Hasher computing up to concurrency hashes at a time (at least one); up to waiting more callers
-// may wait. Its limits are [LimitsFor] the settings. It does not copy Settings.Secret and Settings.Data: do not change
+// NewHasher returns a Hasher: concurrency (at least one) limits the hashes computed at a time, and waiting the callers
+// that wait. Its limits are [LimitsFor] the settings. It does not copy Settings.Secret and Settings.Data: do not change
 // their bytes while the Hasher is used.
 func NewHasher(settings Settings, concurrency, waiting int) *Hasher {
 	concurrency = highest(concurrency, 1)

@@ -19,7 +19,7 @@ func waitFor(t *testing.T, what string, isTrue func() bool) {
 	}
 }
 
-// endless has the hash of settings take hours.
+// endless makes the hash of settings take hours.
 func endless(s *Settings) { s.Memory, s.Time, s.Lanes = 4096, 1<<31, 2 }
 
 // start has a Hasher compute a hash, and returns a channel for the error.
@@ -110,7 +110,7 @@ func TestCallersComputeOrWaitOrLeaveOrAreTurnedAway(t *testing.T) {
 	}
 }
 
-// TestNobodyIsTurnedAwayWhileNobodyWaits makes a call when the waiting one has its place, but does not run yet.
+// TestNobodyIsTurnedAwayWhileNobodyWaits makes a call when the waiting call has a place, but is not running.
 func TestNobodyIsTurnedAwayWhileNobodyWaits(t *testing.T) {
 	defer runtime.GOMAXPROCS(runtime.GOMAXPROCS(1))
 	for i := 0; i < 50; i++ {

@@ -50,9 +50,9 @@ func NewPeppers(hasher *Hasher, peppers ...Pepper) (*Peppers, error) {
 	return &Peppers{&newest, own}, nil
 }
 
-// AcceptUnpeppered returns the same peppers, which also verify hashes without a pepper, whose ID is empty, and renew
-// them with the newest one. Use it only while you move such hashes: whoever can write to the store can add a hash that
-// needs no key.
+// AcceptUnpeppered returns the same peppers, which also verify hashes without a pepper (the ID is empty), and renew
+// these with the newest pepper. Use it only while you move such hashes: whoever can write to the store can add a
+// hash that needs no key.
 func (p *Peppers) AcceptUnpeppered() *Peppers {
 	return &Peppers{p.hasher, append(append([]Pepper(nil), p.peppers...), Pepper{})}
 }

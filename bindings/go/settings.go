@@ -18,7 +18,8 @@ const (
 	ID
 )
 
-// Settings say how a hash is made. Begin with [OWASP2].
+// Settings say how a hash is made. Begin with [OWASP2]. The recommended settings are Argon2id with one lane, a 16-byte
+// salt and a 32-byte hash. For its two settings, RFC 9106 recommends four lanes: set Lanes.
 type Settings struct {
 	Variant    Variant
 	Version    uint32
@@ -31,9 +32,6 @@ type Settings struct {
 	Secret     []byte `json:"-"` // a pepper, or nil; it is not copied
 	Data       []byte // associated data, or nil
 }
-
-// The recommended settings are Argon2id with one lane, a 16-byte salt and a 32-byte hash. For its two settings, RFC
-// 9106 recommends four lanes: set Lanes.
 
 // presets, by .ci/pages/presets
 
@@ -71,7 +69,7 @@ func (s Settings) Format(state fmt.State, _ rune) {
 		s.Variant, s.Version, s.Memory, s.Time, s.Lanes, s.Threads, s.SaltLength, s.HashLength)
 }
 
-// threads returns how many threads may fill the lanes: no more than most, and that many if the settings name none.
+// threads returns how many threads may fill the lanes: Threads, but no more than most; 0 means most.
 func (s Settings) threads(most uint32) uint32 {
 	if s.Threads == 0 || s.Threads > most {
 		return most

@@ -1,6 +1,6 @@
 // The program makes the calls that standard input names, over the library of codes.c. It prints what each call returned
 // and what the library saw, which test_go.py checks. A line of input is a call's name, whether a Hasher makes it, and
-// the numbers that the library returns.
+// the arguments of set_answers.
 package main
 
 // #include <stdint.h>
@@ -24,7 +24,7 @@ var (
 	word = []byte("word")
 	// No two of these settings are equal, so that none can be passed in the place of another.
 	settings = argon2.Settings{
-		Variant: argon2.ID, Version: argon2.Version, Memory: 64, Time: 3, Lanes: 4, Threads: 3, SaltLength: 8, HashLength: 5,
+		Variant: argon2.ID, Version: argon2.Version, Memory: 64, Time: 3, Lanes: 4, Threads: 1, SaltLength: 8, HashLength: 5,
 		Secret: []byte("key"), Data: []byte("data"),
 	}
 )
@@ -55,7 +55,7 @@ func call(name string, isHasher bool) (value any, err error) {
 	return value, err
 }
 
-// manyLanes returns settings with more lanes than the most threads that verify.
+// manyLanes returns settings with more lanes than threads that may verify.
 func manyLanes() argon2.Settings {
 	s := settings
 	s.Lanes, s.Threads = 20, 0

@@ -149,7 +149,7 @@ def test_the_sources_are_laid_out_and_each_exported_name_has_a_comment(module, e
 
 
 def test_cgo_and_unsafe_code_are_only_in_one_file():
-    """(calls_go124.go has no code: it tells a newer cgo how that file's calls behave)"""
+    """(calls_go124.go has no code: it tells newer cgo how calls in calls.go behave)"""
     files = [file for file in MODULE.rglob("*.go") if re.search('"(C|unsafe)"', file.read_text())]
     assert {file.name for file in files} == {"calls.go", "calls_go124.go"}
     assert not re.search("^(?!//|package|import|$)", (MODULE / "calls_go124.go").read_text(), re.M)
@@ -164,7 +164,7 @@ def test_the_tests_of_the_module_pass(module, env, drawn, words, more):
 
 @pytest.mark.parametrize("build", ["x86-64-v2", "none"])
 def test_the_build_is_chosen_for_the_processor(module, env, build):
-    """Without one each call returns an error: the example prints that."""
+    """Without a build, calls return an error, which the example prints."""
     done = start("go", "test", "-count=1", "-run", "^Example$", cwd=module, env={**env, "PROVED_ARGON2_CPU": build})
     assert (done.returncode == 0) == (build != "none") and ("is too old" in done.stdout) == (build == "none"), done
 
@@ -229,7 +229,7 @@ def test_each_call_returns_for_each_number_what_the_table_says(ask, name, is_has
         computes = bool(codes.computing) and (place == "then" or number == 0)
         is_buffered = computes and is_hasher
         is_short = number == HEADER["OUT_OF_MEMORY"]  # then the call allocates its own memory
-        threads = 3 if codes.hashes or is_hasher else 16  # a function that verifies has no settings
+        threads = 1 if codes.hashes or is_hasher else 16  # a function that verifies has no settings
         assert value == outcome(codes, number), (place, number)
         assert seen[:4] == [str(part) for part in (
             threads * computes, 65536 if is_buffered and not is_short else -1, 0 if is_buffered else -1,
@@ -321,7 +321,7 @@ def test_no_copy_of_a_password_or_a_pepper_is_left(module, env, tmp_path):
 
 
 def test_the_code_of_the_page_runs(module, env, tmp_path):
-    """Its first lines are a program; the other pieces are functions."""
+    """The first piece is a program; the others are functions."""
     first, *others = re.findall(r"^```go\n(.*?)^```", PAGE, re.M | re.S)
     folder = program(tmp_path / "page", module)
     (folder / "main.go").write_text(first)

@@ -159,7 +159,7 @@ def test_its_own_tests_pass_in_newer_java(jar, classes, drawn, system, version):
 
 @needs("aarch64-linux-gnu-gcc", "qemu-aarch64-static")
 def test_its_own_tests_pass_on_arm64(classes, drawn, tmp_path):
-    """Except for one that asks for 2 TiB, for each page of which qemu would need memory."""
+    """Except for one that asks for 2 TiB: qemu would need memory for each page."""
     jar, root = tmp_path / "proved-argon2.jar", TOP / "out/aarch64/root"
     made = start(TESTS / "aarch64_root", root)
     if made.returncode == 77:

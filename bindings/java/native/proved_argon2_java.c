@@ -23,7 +23,7 @@ typedef struct bytes {
 } bytes;
 #define BYTES(name) of[name].at, of[name].len
 
-/* What finds out whether a call must stop. */
+/* What must_stop needs to ask Java. */
 typedef struct caller {
     JNIEnv *env;
     jclass native;

@@ -10,6 +10,7 @@ import java.nio.charset.StandardCharsets;
 import java.nio.file.Files;
 import java.nio.file.Path;
 import java.util.ArrayList;
+import java.util.Collections;
 import java.util.List;
 import java.util.Map;
 import java.util.concurrent.ConcurrentHashMap;
@@ -38,7 +39,7 @@ final class Service {
         }
     }
 
-    /** Answers a login of the user "known" or of another, whose password is sent. */
+    /** Answers a login of "known" or another user. The body is the password. */
     private static void answer(HttpExchange exchange) throws IOException {
         try (exchange) {
             String password = new String(exchange.getRequestBody().readAllBytes(), StandardCharsets.UTF_8);
@@ -76,7 +77,7 @@ final class Service {
     }
 
     private static void runAll(int count, IntConsumer call) throws InterruptedException {
-        List<Throwable> failures = new ArrayList<>();
+        List<Throwable> failures = Collections.synchronizedList(new ArrayList<>());
         List<Thread> threads = new ArrayList<>();
         for (int i = 0; i < count; i++) {
             int number = i;
@@ -95,7 +96,7 @@ final class Service {
         return LOG_IN.logIn(user, null, "a".repeat(length).toCharArray()).answer();
     }
 
-    /** Clients that leave free their places at once: more than there are places, all are stopped and none is BUSY. */
+    /** Leaving clients free their places at once: more leave than there are places; all are stopped, none is BUSY. */
     private static void leave() {
         PrintStream usual = System.err;
         ByteArrayOutputStream log = new ByteArrayOutputStream();

@@ -59,7 +59,7 @@ async def reject_other_inputs():
 
 
 async def lose_clients():
-    """Clients that leave free their places."""
+    """Leaving clients free their places."""
     for _ in range(3):
         logins = [asyncio.ensure_future(log_in("somebody", "password", OLDER)) for _ in range(66)]
         await asyncio.sleep(0.01)

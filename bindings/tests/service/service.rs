@@ -87,7 +87,7 @@ fn logs_in(line: &argon2::Line, user: &str, length: usize, has_left: bool) -> Lo
     log_in(line, user, &password, Some(&older(&password)), || has_left)
 }
 
-/// No password is too long, no name begins a line of the log, and no client that has left keeps a place.
+/// Too long passwords are rejected, no name begins a line of the log, and clients that left keep no place.
 fn is_bounded(line: &argon2::Line) {
     assert!(matches!(logs_in(line, "x\nlogged in: root", 1024, false), Login::Accepted(Some(_))));
     assert_eq!(logs_in(line, "somebody", 1025, false), Login::Rejected);

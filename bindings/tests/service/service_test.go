@@ -19,7 +19,7 @@ import (
 	"vemkuorl.example/proved-argon2/argon2"
 )
 
-// store is a store that makes the same login again and again: it only counts what is saved.
+// store only counts what is saved, so that the same login can be repeated.
 type store struct {
 	mutex sync.Mutex
 	known map[string]argon2.Stored

@@ -33,11 +33,11 @@ public final class Argon2Exception extends RuntimeException {
     public static final int STOPPED = 130;
     /** {@value}: the library has no build for this processor. */
     public static final int OLD_PROCESSOR = 131;
-    /** {@value}: a queue has no place, it is closed, or the system denied its first thread. Try again later. */
+    /** {@value}: a queue has no place, or the system denied its first thread: try later. Or the queue is closed. */
     public static final int BUSY = 257;
     /** {@value}: there is no pepper with the ID of a stored hash, or the stored hash has no pepper. */
     public static final int UNKNOWN_PEPPER = 258;
-    /** {@value}: there is no pepper, a key is empty, or two peppers have the same ID. */
+    /** {@value}: there is no pepper, a key is empty, an ID is null, or two peppers have the same ID. */
     public static final int INVALID_PEPPERS = 259;
     /** {@value}: the password has half of a surrogate pair, which has no UTF-8. */
     public static final int NOT_UNICODE = 260;

@@ -131,7 +131,7 @@ public final class HashQueue implements AutoCloseable {
             threads.execute(task);
             isQueued = true;
         } catch (RejectedExecutionException closed) {
-            isQueued = false;
+            // the queue was closed meanwhile
         } catch (OutOfMemoryError denied) {
             threads.getQueue().add(task);
             isQueued = threads.getPoolSize() > 0 || !threads.remove(task);
@@ -153,8 +153,8 @@ public final class HashQueue implements AutoCloseable {
         }
 
         /**
-         * Makes the call. Its place is free before anybody hears of its end. If there is no memory for the result of a
-         * callback, completing throws, and only another attempt runs the other callbacks and wakes who waits.
+         * Makes the call. Its place is free before anybody hears of its end. If no memory is left for a callback's
+         * result, completing throws; only another attempt runs the other callbacks and wakes the waiting threads.
          */
         @Override
         public void run() {
@@ -185,7 +185,7 @@ public final class HashQueue implements AutoCloseable {
             }
         }
 
-        /** Removes a cancelled call that still waits from the queue. */
+        /** Removes a cancelled, still waiting call from the queue. */
         private void leaveQueue() {
             if (threads.remove(this)) {
                 call = null;

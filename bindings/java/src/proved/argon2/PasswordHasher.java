@@ -116,7 +116,7 @@ public class PasswordHasher {
 
     /** {@return false, taking as long as verifying a hash with these settings} For a user who does not exist. */
     public final boolean verifyUnknown(byte[] password) {
-        call(Native.Call.VERIFY_UNKNOWN, password, NONE, NONE, Native.MISMATCH, Native.NEEDS_REHASH);
+        call(Native.Call.VERIFY_UNKNOWN, password, NONE, NONE, Native.MISMATCH);
         return false;
     }
 
@@ -131,7 +131,7 @@ public class PasswordHasher {
         return encoded(CharBuffer.wrap(password), this::hash);
     }
 
-    /** {@return what {@link #verify(String, char[])} does} For null or "" it is {@link #verifyUnknown(char[])}. */
+    /** {@return what {@link #verify(String, char[])} does} A stored null or "" means {@link #verifyUnknown(char[])}. */
     public final boolean matches(CharSequence password, String stored) {
         boolean isKnown = stored != null && !stored.isEmpty();
         return encoded(CharBuffer.wrap(password), bytes -> isKnown ? verify(stored, bytes) : verifyUnknown(bytes));
@@ -154,7 +154,7 @@ public class PasswordHasher {
         return new String(text, 0, text.length - 1, StandardCharsets.US_ASCII);
     }
 
-    /** Verifies a password, and hashes it with another hasher if that has another pepper or other settings. */
+    /** Verifies a password, and hashes it with the newest hasher if the hash's pepper or settings differ. */
     final Verdict<String> verifyAndUpdate(String stored, byte[] password, PasswordHasher newest) {
         int verdict = verdict(stored, password);
         if (verdict == Native.MISMATCH || verdict == Native.OK && newest == this) {
@@ -188,7 +188,7 @@ public class PasswordHasher {
         return call(Native.Call.VERIFY, password, NONE, text, Native.MISMATCH, Native.NEEDS_REHASH);
     }
 
-    /** Makes a call, in a queue's thread in its buffer. A number other than 0 and these verdicts is an error. */
+    /** Makes a call; a queue's thread uses its own buffer. A number other than 0 and these verdicts is an error. */
     private int call(Native.Call call, byte[] password, byte[] salt, byte[] text, Integer... verdicts) {
         long[] kept = Thread.currentThread() instanceof HashQueue.Worker worker ? worker.kept : null;
         int number = Native.make(call.ordinal(), settings.numbers(), limits.numbers(), kept,

@@ -22,9 +22,9 @@ public record Tuning(Settings settings, double milliseconds, OptionalDouble load
     private static final int ROUNDS = 3;
 
     /**
-     * Measures hashes, and finds strong settings whose hash takes at most this long on this machine: the
-     * memory of {@code most}, halved until a hash fits, and then as many passes as possible, within the default limits.
-     * It finds none if even the weakest settings that protect passwords take longer.
+     * Measures hashes, and finds strong settings whose hash takes at most {@code within} here: it halves the
+     * memory of {@code most} until a hash fits, and then adds as many passes as fit, within the default limits.
+     * It finds none if even the weakest settings that protect passwords take longer, or need more memory.
      */
     public static Optional<Tuning> tune(Duration within, Settings most) {
         return search(within.toNanos() / 1e6, most, Tuning::measure);

@@ -121,7 +121,7 @@ class HashQueueTest {
         assertThrows(IllegalArgumentException.class, () -> new HashQueue(1, -1));
     }
 
-    /** Also in its callbacks: the user's run before those of the queue. */
+    /** Also in its callbacks: the user's callbacks precede the queue's. */
     @Test
     void aCancelledCallThatWaitsGivesBackItsPlace() throws InterruptedException {
         CompletableFuture<String> first = computing();
@@ -178,7 +178,7 @@ class HashQueueTest {
         }
     }
 
-    /** They run after the call's end: the place is free, and no hash is stopped. */
+    /** Callbacks run after the call's end: the place is free, and no hash is stopped. */
     @Test
     void callbacksInTheThreadAreNoPartOfTheCall() {
         CompletableFuture<String> first = submitHeld(() -> {
@@ -196,7 +196,7 @@ class HashQueueTest {
         assertEquals(List.of(false, false), soon(next).stream().map(HashQueueTest::soon).toList());
     }
 
-    /** Neither the thread, which is idle or computes another, nor the future refers to it. */
+    /** Neither the thread (idle or busy again) nor the future refers to the password. */
     @Test
     void nothingRefersToAPasswordAfterTheCall() throws InterruptedException {
         try (HashQueue other = new HashQueue(1, 0, Duration.ofMinutes(5))) {
