@@ -93,7 +93,7 @@ typedef enum Argon2_ErrorCodes {
     ARGON2_VERIFY_MISMATCH = -35
 } argon2_error_codes;
 
-/* Sets *memory to the address of so many bytes, a multiple of 8, or leaves it null. Its result is ignored. */
+/* Sets *memory to an address, a multiple of 8, of that many bytes, or leaves it null. Its result is ignored. */
 typedef int (*allocate_fptr)(uint8_t **memory, size_t bytes_to_allocate);
 typedef void (*deallocate_fptr)(uint8_t *memory, size_t bytes_to_allocate);
 
@@ -136,7 +136,7 @@ ARGON2_PUBLIC const char *argon2_error_message(int error_code);
 ARGON2_PUBLIC size_t argon2_encodedlen(
     uint32_t t_cost, uint32_t m_cost, uint32_t parallelism, uint32_t saltlen, uint32_t hashlen, argon2_type type);
 
-/* Writes the tag of a context to its out. Returns ARGON2_OK, or an error and leaves out unchanged. */
+/* Writes the tag of a context to its out. Returns ARGON2_OK, or an error; then out is unchanged. */
 ARGON2_PUBLIC int argon2_ctx(argon2_context *context, argon2_type type);
 ARGON2_PUBLIC int argon2d_ctx(argon2_context *context);
 ARGON2_PUBLIC int argon2i_ctx(argon2_context *context);

@@ -112,7 +112,7 @@ judge() {
     exit "$status"
 }
 
-# Makes the program ready. It ends where there is none, or where none can be loaded here.
+# Makes the program ready. Exits if there is none, or if none can be loaded here.
 make_ready() {
     is_known=
     prepare || exit 70
@@ -153,7 +153,7 @@ find_builds_of_x86() {
     build=
     for word in $flags_of_builds end:; do
         case $word in
-        *:) builds=${build:+$build }$builds build=${word%:} ;; # (all that the one before asks for is there)
+        *:) builds=${build:+$build }$builds build=${word%:} ;; # (all flags of the previous build are there)
         *) has_flag "$word" || return 0 ;;
         esac
     done
@@ -209,7 +209,7 @@ watch_input() {
     { pass_on 3>&1 | tell_of_end; } 4>&1
 }
 
-# Passes as much of standard input as the tool reads to descriptors 3 and 4. `head` ends with status 1 if a read failed;
+# Passes to descriptors 3 and 4 as much of standard input as the tool reads. `head` ends with status 1 if a read failed;
 # a signal ends `head` and `tee` if the tool stops reading.
 pass_on() {
     { head -c "$most_read" 2>/dev/null || [ $? != 1 ] || { add 'the input cannot be read' && echo '!unread' >&5; }; } \
@@ -274,7 +274,7 @@ progress() {
     [ ! -t 2 ] || printf '\r\033[K%s' "$1" >&2
 }
 
-# `1 pass`, or so many: `count_passes PASSES`.
+# `1 pass`, or `N passes`: `count_passes PASSES`.
 count_passes() {
     [ "$1" = 1 ] && echo '1 pass' || echo "$1 passes"
 }
@@ -308,8 +308,8 @@ tell_of_load() {
 programs a hash takes less time than was measured"
 }
 
-# Prints the strongest settings whose hash took at most MILLISECONDS: first as much memory as possible, then as many
-# passes, as the other languages find them: `tune MILLISECONDS [KIB]`.
+# Prints strong settings whose hash took at most MILLISECONDS: memory is halved until a hash fits, then passes
+# are added, as in the other languages: `tune MILLISECONDS [KIB]`.
 tune() {
     [ $# != 1 ] || set -- "$1" "$tuned_memory"
     { [ $# = 2 ] && is_number "$1" && is_number "$2"; } || {

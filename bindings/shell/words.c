@@ -85,7 +85,7 @@ static int is_mode(const char *word, uint32_t *threads)
         || (strncmp(word, "max", 3) == 0 && is_number(word + 3, threads));
 }
 
-/* What a word of this kind should be, or NULL if it is that. */
+/* What this kind of word should be, or NULL if it is right. */
 static const char *fault_of(char kind, const char *word, uint32_t *number)
 {
     switch (kind) {

@@ -244,14 +244,14 @@ static void check_buffers(void)
     expect(hash_at_once(3, LARGE) == 3 && are_kept(1, 1, LARGE) && made == 0, "one thread has one buffer for all");
     most_threads = 4;
     expect(hash_at_once(4, LARGE) == 4 && are_kept(1, 4, LARGE), "four at the same time have four at most");
-    expect(hash_at_once(1, SMALL) == 1 && are_kept(1, 4, LARGE), "less memory is in a buffer that is there");
+    expect(hash_at_once(1, SMALL) == 1 && are_kept(1, 4, LARGE), "a small run uses a kept buffer");
     for (const time_t end = seconds_now() + 2 * KEPT_SECONDS + 2; seconds_now() < end;) {
         hash_at_once(1, SMALL);
     }
     expect(are_kept(1, 4, SMALL), "but runs that need no more than half of it do not keep it");
     sleep(2 * KEPT_SECONDS + 2);
     expect(are_kept(0, 0, 0), "an unused buffer is freed");
-    expect(hash_at_once(1, SMALL) == 1 && hash_at_once(1, LARGE) == 1, "more memory is in a new one");
+    expect(hash_at_once(1, SMALL) == 1 && hash_at_once(1, LARGE) == 1, "a larger run gets a new buffer");
     expect(are_kept(1, 1, LARGE), "which replaces the smaller one");
     sleep(2 * KEPT_SECONDS + 2);
     is_memory_denied = true;

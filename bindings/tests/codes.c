@@ -146,7 +146,7 @@ proved_argon2_limits proved_argon2_default_limits(void)
     return (proved_argon2_limits){7, 8, 9, 10};
 }
 
-/* Seven different numbers, whatever is answered: what a refusal leaves must not be taken for a value. */
+/* Writes seven different numbers, even on an error: then nobody may use them as values. */
 uint32_t proved_argon2_read(const char *text, size_t text_len, proved_argon2_stored *stored)
 {
     snprintf(passed[TELLING], sizeof *passed, "read %.*s", SHOWN(text));

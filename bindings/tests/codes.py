@@ -52,7 +52,7 @@ each_call = pytest.mark.parametrize("name", CALLS)
 
 
 def said_of(number):
-    """A number's message: the stub's. All strings that are no encoded hash have the same."""
+    """The stub's message for a number; all strings that are no encoded hash share one."""
     return f"N{(HEADER['DECODING_FAIL'] if number == HEADER['NOT_ASCII'] else number) % 1000:03}"
 
 
@@ -72,8 +72,8 @@ def nothing_is_wrong():
 
 
 def gives(place, call, values, other, saw=lambda number: True):
-    """A call has to return the value of each number that has one, or raise its exception, and otherwise the other
-    error, with the number's message."""
+    """For each number, `call` has to return its value, or raise its exception (`other` if it has none), with
+    the number's message."""
     for number in NUMBERS:
         set_answers(**{place: number})
         expected = values.get(number, other)

@@ -1,5 +1,5 @@
 # shellcheck shell=bash
-# Packages of Debian, from the archive that the machine's own lists take packages from, by lists of its own.
+# Fetches packages of Debian from the archive that the machine itself uses, by separate lists.
 
 # apt-get by the lists of a folder alone: `apt_in FOLDER WORD..`.
 apt_in() {

@@ -46,7 +46,7 @@ class Codes:
 CODES = {codes.name: codes for codes in map(
     Codes, re.findall("^[^#].*", (TOP / "bindings/tests/codes.txt").read_text(), re.M))}
 # A kept memory after calls that found it too small: its bytes, the bytes that codes.c allocates per KiB, the
-# code that an allocation returns, and how many memories were requested, exist then, and existed at once.
+# code that an allocation returns, and how many memories were requested, remain, and existed together at most.
 MEMORIES = [(65536, 1024, 0, (1, 1, 1)), (65536, 1024, 0, (0, 1, 0)), (131072, 2048, 0, (1, 1, 1)), *(
     step for refused in NUMBERS[1:] for step in ((0, 4096, refused, (1, 0, 0)), (65536, 1024, 0, (1, 1, 1))))]
 
@@ -104,7 +104,7 @@ def ahead(request, name, work, at_once=None):
 
 
 def rows(path):
-    """The lines of a table, but for comments, as lists of what stands between ` | `."""
+    """The lines of a table, except comments, as lists of what stands between ` | `."""
     lines = path.read_text(encoding="utf-8").splitlines()
     return [[part.strip() for part in f"{line} ".split(" | ")] for line in lines if line and line[0] != "#"]
 

@@ -145,7 +145,7 @@ def part(section, title):
 
 
 def joined(code):
-    """A piece of C without comments, and with no blank but between two words."""
+    """A piece of C without comments, and with blanks only between two words."""
     code = re.sub(r"/\*.*?\*/", "", code, flags=re.S)
     return re.sub(r"\s*([^\w\s])\s*", r"\1", re.sub(r"\s+", " ", code)).strip()
 
@@ -206,7 +206,7 @@ def test_the_manual_and_the_help_have_the_same_forms():
     assert {" ".join(form.replace("'TEXT'", "TEXT").split()) for form in helped} <= documented
 
 
-def test_the_script_does_what_the_manual_says_alone():
+def test_the_manual_names_the_command_that_the_script_does_itself():
     said = {word: piped([word], command=[TOOL])[2] for word in ("new", "check", "tune", "hash", "verify", "rehash")}
     (unknown,) = [word for word, text in said.items() if b"there is no command" in text]
     assert f"It executes {unknown} itself, and passes all other commands on" in " ".join(

@@ -94,14 +94,14 @@ def test_each_build_computes_the_example_and_the_outside_vectors(installed, exam
     run("/usr/bin/python3", "-B", "-m", "pytest", "-q", "bindings/python/tests/test_vectors.py", env=named)
 
 
-def test_the_shared_object_exports_what_the_headers_declare_and_is_bound_at_once_and_read_only_then(installed):
+def test_the_shared_object_exports_what_the_headers_declare_and_is_bound_at_once_and_then_read_only(installed):
     said, segments, entries = (run(*words, installed / f"lib/{LIBRARY}.1")
                                for words in (("nm", "-D", "--defined-only"), ("readelf", "-lW"), ("readelf", "-dW")))
     assert sorted(re.findall(r" T (.*)@@PROVED_ARGON2_1$", said, re.M)) == CALLS
     assert re.search(r"GNU_STACK.* RW ", segments) and "GNU_RELRO" in segments and re.search("FLAGS_1.*NOW", entries)
 
 
-def test_registers_of_256_and_512_bits_are_in_the_builds_for_their_processors_alone(built, installed):
+def test_registers_of_256_and_512_bits_are_only_in_the_builds_for_their_processors(built, installed):
     for file, expected in (
         *((built / build / "libargon2_c.a", set() if build == "x86-64-v2" else {"ymm"}) for build in PROVED),
         (installed / f"lib/{LIBRARY}.1", {"ymm", "zmm"}), (installed / "lib/libproved_argon2.a", {"ymm", "zmm"}),
@@ -135,7 +135,7 @@ def test_installing_again_replaces_open_files_by_new_ones(installed):
 
 @needs("groff")
 @pytest.mark.parametrize("page", ["man1/proved-argon2.1", *(f"man3/{call}.3" for call in (*CALLS, "proved_argon2"))])
-def test_the_manual_is_sound_and_there_by_the_name_of_each_call(installed, page):
+def test_the_manual_is_sound_and_opens_by_the_name_of_each_call(installed, page):
     done = start("groff", "-s", "-man", "-Tascii", "-P-cbou", "-ww", page, cwd=installed / "share/man")
     assert done.stderr == "" and VERSION in done.stdout, done.stderr
     assert page[5:-2] not in CALLS or f"{page[5:-2]}(" in done.stdout

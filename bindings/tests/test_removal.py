@@ -36,7 +36,7 @@ def prefix(folder):
     return folder / "deep/a prefix"
 
 
-def test_it_installs_over_an_older_one_and_removes_what_is_its_own_alone(prefix):
+def test_it_installs_over_an_older_one_and_removes_only_what_is_its_own(prefix):
     older = prefix / f"lib/{LIBRARY}.0.9.0"
     older.touch()
     with open(prefix / "share/proved-argon2/installed", "a") as listed:

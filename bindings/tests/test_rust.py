@@ -202,7 +202,7 @@ def test_other_calls_pass_their_arguments_in_order(ask):
 
 @pytest.mark.parametrize("how", ["alone", "over"])
 def test_a_login_of_an_unknown_user_computes_one_hash_with_the_settings_and_never_matches(ask, how):
-    """With as many threads as lanes, as a verification has, although the settings say that three hash."""
+    """With as many threads as lanes, as a verification has, although the settings name three."""
     numbers = [0, HEADER["OUT_OF_MEMORY"], HEADER["OLD_PROCESSOR"]]
     said = ask(("verify_unknown", how, {"then": number}) for number in numbers)
     found = [(line.split("|")[0], line.split("|")[2], line.split("|")[-1]) for line in said]
@@ -284,7 +284,7 @@ def test_the_page_has_the_arguments_of_the_calls():
     assert documented == taken and len(taken) == 20
 
 
-def test_the_manifest_says_what_the_page_does_and_has_the_address_of_debian_s_packages():
+def test_the_manifest_agrees_with_the_page_and_has_the_address_of_debian_s_packages():
     lines = (CRATE / "Cargo.toml").read_text().splitlines()
     (oldest,) = re.findall(r"is for Rust ([\d.]*) and later", PAGE)
     address = re.search(r"^ -- (.*@.*>)  ", (TOP / "debian/changelog").read_text(), re.M)[1]

@@ -82,7 +82,7 @@ def test_a_full_output_has_status_4(words):
 
 @pytest.fixture
 def for_newer_glibc(built, tmp_path):
-    """The command of copies of the script and the tool, which ask for a version of glibc that there is not."""
+    """The command of copies of the script and the tool, which need a version of glibc that does not exist."""
     libexec = tmp_path / "libexec/proved-argon2"
     (tmp_path / "bin").mkdir()
     script = tmp_path / "bin/proved-argon2"
@@ -213,7 +213,7 @@ def test_check_reads_an_encoded_hash_from_a_descriptor(tmp_path, text, password,
 
 @pytest.mark.parametrize("known", [
     bytes(range(0xE0, 0xF0)), bytes(16), bytes(range(16)), b"", bytes(range(0xE0, 0xEF))], ids=bytes.hex)
-def test_the_salt_of_new_is_what_the_system_gives_and_all_of_it(tmp_path, known):
+def test_the_salt_of_new_is_all_16_bytes_that_the_system_gives(tmp_path, known):
     """It asks the system for 16 random bytes."""
     od, asked = tmp_path / "od", "-An -v -tx1 -N16 /dev/urandom"
     od.write_text(f"""#!/bin/sh\n[ "$*" = '{asked}' ] || exec {shutil.which("od")} "$@"\necho ' {known.hex(" ")}'\n""")
@@ -268,7 +268,7 @@ def test_new_runs_the_program_once_and_prints_no_text_of_the_empty_password(run_
         assert (ended, output) == (status, b"") and b"empty" not in errors, status
 
 
-def test_the_program_is_told_to_take_huge_pages_and_has_no_text_open(run_script):
+def test_the_program_gets_the_huge_pages_setting_and_no_open_descriptor(run_script):
     program = """cat >/dev/null
 [ "$1" = new ] && printf 'tag\\n%s\\n' "$GLIBC_TUNABLES" && exit
 [ ! -e /proc/self/fd/3 ] || echo open
@@ -421,7 +421,7 @@ def test_new_prints_no_hash_if_the_typed_password_is_rejected(typed, status, sai
     (["check", STORED], b"half\x03", (-signal.SIGINT, b""), b""),
     (["verify", STORED], b"password\n", (0, b"true\n"), b""), (["verify", STORED], b"passwor\n", (1, b"false\n"), b""),
     ([*REHASH, "x"], None, (2, b""), b"Decoding failed\r\n")], ids=lambda value: f"{value!r:.20}")
-def test_others_ask_once_without_echo_and_answer(words, typed, end, said):
+def test_the_other_commands_ask_once_without_echo_and_answer(words, typed, end, said):
     run = Terminal(words, *[typed] * (typed is not None))
     assert run.end == end and said in run.shown and b"--help" not in run.shown
     key = (typed or b"").strip(b"\n\x03\x04")

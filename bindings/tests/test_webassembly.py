@@ -9,7 +9,7 @@ from running import TOP, needs, run, start
 ARCHIVE = TOP / "bindings/out/wasm64-unknown-unknown/libargon2_c.a"
 CALLS = re.findall(r'^pub extern "C" fn (proved_argon2_[a-z0-9_]*)', "".join(
     file.read_text() for file in (TOP / "crates/argon2_c/src").glob("*.rt")), re.M)
-# An address that is cut after a constant is added, which could be an offset instead.
+# An address cut to 32 bits after a constant is added, which could be an offset.
 SUM = re.compile(r"i64\.const -?\d{1,9}\n *i64\.add\n *i32\.wrap_i64\n")
 HOST = """1i\\	.functype	of_the_host () -> ()
 1i\\	.import_module	of_the_host, env

@@ -13,7 +13,7 @@ const STORED: [&str; 4] = [
     "$argon2id$v=19$m=256,t=2,p=2$c29tZXNhbHQ$bQk8UB/VmZZF4Oo79iDXuL5/0ttZwg2f/5U52iv1cDc",
 ];
 
-/// Of a string and of what it is parsed into, which have to be the same.
+/// The verdict on a string and on its parsed form, which have to agree.
 fn verdict(hasher: &Argon2<'_>, stored: &str, password: &[u8]) -> Result<()> {
     let said = hasher.verify_password(password, stored);
     let parsed = PasswordHash::new(stored).map_err(Error::from);
@@ -71,7 +71,7 @@ fn rejects_what_is_wrong() {
     assert_eq!(hashed(&[0; 16], 65), Err(Error::OutputSize));
 }
 
-/// What RustCrypto's computes, or reads as of another version.
+/// What RustCrypto's crate accepts, or reads as another version.
 fn differs() {
     let costly = Argon2::from(Config { mem_cost: 8, time_cost: 1000, ..Config::default() });
     let stored = costly.hash_password(b"password").unwrap().to_string();

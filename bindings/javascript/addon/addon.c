@@ -156,7 +156,7 @@ static int report_progress(void *arg, uint64_t done, uint64_t all)
     return atomic_load(&shared->is_stopped) != 0 || self->is_abandoned;
 }
 
-/* Has JavaScript hear that a run has ended. */
+/* Tells JavaScript that a run has ended. */
 static void report_end(run *self)
 {
     napi_call_threadsafe_function(self->listener, NULL, NONBLOCKING);
@@ -252,7 +252,7 @@ static void await_end(run *self)
     pthread_mutex_unlock(&pool.lock);
 }
 
-/* Ends a run before the JavaScript thread whose arrays it uses. A queued run does not begin, since it would wait for
+/* Stops a run before the JavaScript thread with its arrays ends. A queued run does not begin, since it would wait for
  * runs that end later. */
 static void abandon(void *arg)
 {

@@ -1,6 +1,6 @@
 /* Buffers for blocks, which runs use one after another, because the kernel takes long to map, clear and unmap the
  * memory of each hash if several are computed at the same time. A run has a buffer of its own while it computes, so
- * there are at most as many as runs at the same time. The library overwrites a buffer at the end of each call. A buffer
+ * there are never more buffers than runs at a time. The library overwrites a buffer at the end of each call. A buffer
  * is freed if no run has needed more than half of it for some seconds. This is tested and not proved. */
 #ifndef ADDON_BUFFERS_H
 #define ADDON_BUFFERS_H
@@ -98,8 +98,8 @@ static bool is_unused(const buffer *self, time_t now)
     return now > self->needed + KEPT_SECONDS;
 }
 
-/* Keeps a buffer, which may be null, after a run with these settings. Frees it instead if only runs that need less have
- * used it for too long. */
+/* Keeps a buffer, which may be null, after a run with these settings. Frees it instead if no run has needed more than
+ * half of it for KEPT_SECONDS. */
 static void keep_buffer(buffer *used, const proved_argon2_settings *settings)
 {
     const time_t now = seconds_now();

@@ -38,7 +38,7 @@ class Bundle:
         return imported + EXPORT.sub("", IMPORT.sub(self.all_of, text))
 
     def all_of(self, found):
-        """What is in the place of an import: an object, if that is to have all that a file exports."""
+        """The replacement of an import: an object, if it imports all that a file exports."""
         names, other = found.groups()
         return names and f"const {names} = {{ {', '.join(self.exports[other])} }};\n"
 

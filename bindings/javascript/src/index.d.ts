@@ -30,7 +30,7 @@ export interface Settings {
     hashLength?: number;
 }
 
-/** What stops a call: an `AbortSignal`. So this file needs neither the DOM's types nor Node's. */
+/** An `AbortSignal`, which stops a call. Declared here, it needs neither the DOM's types nor Node's. */
 export interface StopSignal {
     /** Whether it was aborted. */
     readonly aborted: boolean;
@@ -48,10 +48,10 @@ export interface Running {
     signal?: StopSignal;
     /** `true` computes only by Node's addon, `false` only by WebAssembly. By default the addon computes if it loads. */
     native?: boolean;
-    /** `false` computes by WebAssembly in the caller's thread, one call after another. After each slice other tasks of
-     * the thread run. */
+    /** `false` computes by WebAssembly in the caller's thread, even if `native` is `true`, one call after another.
+     * After each slice other tasks of the thread run. */
     worker?: boolean;
-    /** The maximum number of workers or threads, at least 1; to verify, at most 16. Without it, one for each lane, if
+    /** The maximum number of workers or threads, at least 1. Verifying uses at most 16. Default: one for each lane, if
      * there are enough processors. */
     threads?: number;
     /** The line in which the call waits for its turn. */
@@ -60,8 +60,8 @@ export interface Running {
 
 /** The options of a `Line`: its limits, and the settings of a hash, from which the default limits are computed. */
 export interface LineOptions extends Settings {
-    /** How many calls compute at the same time. Without it, the processors divided by the lanes, or fewer, so that they
-     * fit into a quarter of the memory. */
+    /** How many calls compute at the same time. Without it, the processors divided by the lanes, or fewer if their
+     * hashes exceed a quarter of the memory. */
     concurrency?: number;
     /** How many more calls may wait. Without it, 16 times as many as may compute. */
     waiting?: number;
@@ -146,7 +146,8 @@ export interface Updated {
 
 /**
  * Verifies a password against a PHC string as `verify` does. If it matches, and the string has other settings than the
- * options, it also hashes the password anew. If only the new hash fails, the old string stays.
+ * options, it also hashes the password anew. If only the new hash fails, the old string stays. If the signal is
+ * aborted, the call rejects, even after the password has matched.
  */
 export function verifyAndUpdate(encoded: string, password: string | Bytes, options?: UpdateOptions): Promise<Updated>;
 
@@ -216,9 +217,9 @@ export interface Tuning {
 }
 
 /**
- * Finds the strongest settings whose hash takes at most `milliseconds` here: as much memory as there is time for, and
- * then as many passes, within the default limits. It rejects with `RangeError` if the least settings for passwords (7
- * MiB, 5 passes, or their work) take longer.
+ * Finds strong settings whose hash takes at most `milliseconds` here: it halves `memoryCost` until a hash fits,
+ * and then adds passes, within the default limits. It rejects with `RangeError` if the least settings for passwords (7
+ * MiB, 5 passes, or equal work) take longer.
  */
 export function tune(milliseconds: number, options?: TuneOptions): Promise<Tuning>;
 

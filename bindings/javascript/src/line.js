@@ -44,7 +44,7 @@ export class Progress {
         return this.isStopped;
     }
 
-    /** Calls `stop` when the signal is aborted. Call the function that this returns to end that. */
+    /** Calls `stop` when the signal is aborted. Returns a function that removes this listener. */
     whenAborted(stop) {
         this.signal?.addEventListener('abort', stop, { once: true });
         return () => this.signal?.removeEventListener('abort', stop);
@@ -61,7 +61,7 @@ export class Progress {
     }
 }
 
-/** A number of places. A call takes some of them at once or, when others leave theirs, in its turn. */
+/** A number of places. A call takes free ones at once, or waits its turn until others leave theirs. */
 export class Places {
     #taken = 0;
     #waiting = [];

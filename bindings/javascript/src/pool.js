@@ -12,7 +12,7 @@ const working = new Places(processors);
 /** Idle workers. The one that worked last is taken first, so that others can end. */
 const idle = [];
 
-/** An idle worker, if possible one with a memory or one without, as asked for; otherwise a new worker. */
+/** An idle worker, preferably with or without a memory as `hasMemory` says; otherwise a new one. */
 function takeWorker(hasMemory) {
     const index = idle.findLastIndex((worker) => worker.hasMemory === hasMemory);
     const [worker] = idle.splice(index, 1);
@@ -45,7 +45,7 @@ function release(worker) {
     }
 }
 
-/** A call that a worker leads, and others help it. */
+/** A call that one worker leads while others help. */
 class Call {
     #leader;
     #helpers;

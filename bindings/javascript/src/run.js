@@ -41,7 +41,7 @@ function takeStepOfLane(memory, layout, step, lane) {
     return memory.call('job_fill', job, pass, slice, lane, ...others, segmentOf(layout, slice, lane));
 }
 
-/** Takes a step of the lanes first, first + stride, first + 2 stride and so on. Returns the first error. */
+/** Takes a step of the lanes `first`, `first + stride`, `first + 2 stride` and so on. Returns the first error. */
 function takeStep(memory, layout, step, first, stride) {
     let code = OK;
     for (let lane = first; lane < layout.lanes && code === OK; lane += stride) {

@@ -9,7 +9,7 @@ const LEAST_MEMORY = 7168;
 const LEAST_WORK = 5 * LEAST_MEMORY;
 const ROUNDS = 3;
 
-/** The strongest settings whose hash takes at most so many milliseconds here. */
+/** Strong settings whose hash takes at most this many milliseconds here. */
 export async function tune(milliseconds, { memoryCost = 65536, parallelism = 1, ...running } = {}) {
     const settingsOf = (memory, timeCost) => ({ ...DEFAULTS, memoryCost: memory, timeCost, parallelism });
     const measure = (memory, passes) => leastOf({ ...running, ...settingsOf(memory, passes), salt: allocate(8) });
@@ -17,7 +17,7 @@ export async function tune(milliseconds, { memoryCost = 65536, parallelism = 1, 
     return { parameters: settingsOf(memory, passes), milliseconds: took, load: loadOfSystem() };
 }
 
-/** Takes as much memory as the time allows, and then as many passes. */
+/** Halves the memory until a hash fits into the time, and then adds as many passes as fit. */
 export async function fittingCosts(milliseconds, memoryCost, measure) {
     if (typeof milliseconds !== 'number') {
         throw new TypeError("'milliseconds' has to be a number");

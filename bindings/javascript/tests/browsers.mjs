@@ -90,7 +90,7 @@ class Browser {
         return this;
     }
 
-    /** Answers the page around the page, if it asks. Its request lasts until the page has ended. */
+    /** Answers the page around the frame, if it asks. Its request lasts until that page has ended. */
     #converse(path, request, response, isolated) {
         const type = { '/around': 'text/html', '/asked': 'text/event-stream', '/answered': 'text/plain' }[path];
         if (type === undefined) {
@@ -98,7 +98,7 @@ class Browser {
         }
         response.writeHead(200, { 'Content-Type': type, ...isolated });
         if (path === '/asked') {
-            // (Firefox closes it once something comes for a page that has crashed)
+            // (when its page crashed, Firefox closes the request at the next write)
             this.#beats = setInterval(() => this.#asked.write(':\n\n'), 1000);
             this.#asked.pipe(response).once('close', () => this.#end('its page has ended'));
         } else {
@@ -185,7 +185,7 @@ export class Chromium extends Browser {
 
 export class Firefox extends Browser {
     static command = ['firefox-esr'];
-    /** It has only this page and its processes, and lets it compute for long without a pause. */
+    /** Only this page and its processes exist, and the page may compute for long without a pause. */
     static settings = `
         user_pref("browser.newtab.preload", false);
         user_pref("browser.startup.homepage_override.mstone", "ignore");

@@ -217,7 +217,7 @@ const PERMISSION = ['--permission', '--experimental-permission'].find((flag) => 
 const PROCESSES = [
     ['an engine without WebAssembly is Unsupported', ['--jitless'], { PROVED_ARGON2_NATIVE: '0' },
         "hash('password')", 'Unsupported: This engine has no WebAssembly'],
-    ['.. and so is a Node that gives no module without an import', ['--import', OLD], {},
+    ['a Node that gives no module without an import is Unsupported', ['--import', OLD], {},
         "Promise.any([hash, verify, needsRehash].map((call) => call('', ''))).catch(({ errors }) => errors.join())",
         Array(3).fill(`Unsupported: Node ${versions.node} is too old: this needs Node 20.19, 22.12 or 24`).join()],
     ['an engine without the addon is Unsupported for a call with `native: true`', [], { PROVED_ARGON2_NATIVE: '0' },

@@ -1,4 +1,4 @@
-// The hashes that bindings/vectors has, or draws: each is a line with its settings, its inputs and what it is.
+// The hashes that bindings/vectors contains or draws at random: each line has settings, inputs and the expected hash.
 import assert from 'node:assert/strict';
 import { readFileSync } from 'node:fs';
 
@@ -14,7 +14,7 @@ function hashOf(line) {
     return { line, settings, salt, inputs: { password, secret, associatedData }, expected: others.slice(4).join(' ') };
 }
 
-/** The hashes of a file, so many at least: what is expected is in hexadecimal, or `ERR` and an error's words. */
+/** The hashes of a file, at least this many. The expected result is hexadecimal, or `ERR` and the error's words. */
 export function hashesOf(file, least) {
     const hashes = linesOf(file).map(hashOf);
     assert.ok(hashes.length >= least, `${hashes.length} lines`);

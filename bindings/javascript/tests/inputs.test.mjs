@@ -1,4 +1,4 @@
-// What callers pass: passwords, views without bytes, forged objects, options that are nobody's, and what is left out.
+// What callers pass: passwords, views without bytes, forged objects, inherited options, and missing ones.
 import assert from 'node:assert/strict';
 import { test } from 'node:test';
 import * as argon2 from 'proved-argon2';
@@ -75,7 +75,7 @@ test('properties that a view overrides are not read', async () => {
 });
 
 test('a property of Object.prototype is not an option', async () => {
-    // (and no `signal`, by which Node's own streams are ended)
+    // (no `signal`: it would end Node's own streams)
     const added = {
         memoryCost: 8, timeCost: 1, parallelism: 8, type: 0, version: 16, hashLength: 4, salt: SALT, limits: null,
         raw: true, secret: SALT, associatedData: SALT, worker: 1, threads: 0, onProgress: 1, work: 1,
@@ -149,7 +149,7 @@ test('a password that is a string is encoded in UTF-8, and different strings nev
     assert.deepEqual(await argon2.hash(text, same), await argon2.hash(new TextEncoder().encode(text), same));
     assert.deepEqual(await argon2.hash(text, same), await argon2.hash(new TextEncoder().encode(text).buffer, same));
     assert.notDeepEqual(await argon2.hash(text, same), await argon2.hash(text.slice(0, -1), same));
-    // (what looks alike may have other bytes, and no form is made of another)
+    // (strings that look alike may have different bytes; they are not normalized)
     for (const form of ['NFC', 'NFD', 'NFKC', 'NFKD']) {
         const normalized = 'pässwörd ﬁ \u212b'.normalize(form);
         const bytes = new TextEncoder().encode(normalized);
@@ -163,7 +163,7 @@ test('salts are 16 random bytes, new for each hash', async () => {
     const salts = encoded.map((text) => Buffer.from(text.split('$')[4], 'base64'));
     assert.ok(salts.every((salt) => salt.length === 16));
     assert.equal(new Set(salts.map((salt) => salt.toString('hex'))).size, 200);
-    // each bit is set in some, and not in others: but once in 2^191 runs
+    // each bit is set in some, and not in others, except once in 2^191 runs
     for (let bit = 0; bit < 128; bit++) {
         const set = salts.filter((salt) => salt[bit >> 3] & (1 << (bit & 7))).length;
         assert.ok(set > 0 && set < 200, `bit ${bit} is set in ${set} of 200`);

@@ -13,7 +13,7 @@ const limited = { timeout: 60000 };
 const key = new TextEncoder().encode('pepper');
 const old = await hash('password', { ...SMALL, timeCost: 2 });
 
-/** Requires that one call more computes in a line of one place, and one more waits. */
+/** Requires that a line of one place is free: one call computes and one waits. */
 async function requireFree(line) {
     const two = [hash('password', { ...SMALL, line }), verify(old, 'password', { line })];
     await assert.rejects(hash('password', { ...SMALL, line }), BusyError);

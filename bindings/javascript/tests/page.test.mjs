@@ -240,7 +240,7 @@ const TESTS = [
     ['the page fits on a screen and on a phone', fits],
 ];
 
-test('a browser that ends fails what waits for it', async () => {
+test('when a browser ends, what waits for it fails', async () => {
     const browser = await new Browser().open(PAGE);
     const waiting = browser.evaluate('new Promise(() => {})');
     setTimeout(() => browser.kill(), 200);

@@ -75,7 +75,7 @@ async function lookInto(words) {
     return { ...seen, masked: masked.found };
 }
 
-/** What the process does that is looked into. */
+/** What the searched process does. */
 async function useSecrets() {
     const objects = [];
     for (let round = 0; round < ROUNDS; round++) {

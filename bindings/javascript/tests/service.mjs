@@ -1,5 +1,5 @@
-// Logins at the same time through docs/examples/log_in.mjs. Each verdict has to be right. As many logins as the example
-// lets compute and wait are answered, others are told to try again, and memory is taken for those alone that compute.
+// Logins at the same time through docs/examples/log_in.mjs. Each verdict has to be right. The example answers as many
+// logins as may compute and wait, tells others to try again, and uses memory only for those that compute.
 import assert from 'node:assert/strict';
 import { hash } from 'proved-argon2';
 import { logIn, statuses } from './log_in.mjs';
@@ -35,7 +35,8 @@ assert.deepEqual(await logIn('somebody', 'password', '$argon2id$', secret), [nul
 assert.ok(seen.true > 0 && seen.false > 0 && seen.null > 1, JSON.stringify(seen));
 const grown = process.resourceUsage().maxRSS - before;
 assert.ok(grown <= MOST_KIB, `${grown} of ${MOST_KIB} KiB`);
-// No password is too long or no string, no name begins a line of the log, no client that has left keeps a place.
+// Passwords that are too long or no string do not match, names cannot start log lines, and
+// clients that left keep no place.
 const long = 'a'.repeat(1025);
 for (const password of [null, 5, ['password'], undefined, long]) {
     const stored = await hash(long, { memoryCost: 64, secret });

@@ -26,7 +26,7 @@ async function compareRaw({ line, settings, salt, inputs: { password, ...keys },
     assert.equal(typeof answer === 'string' ? answer : Buffer.from(answer).toString('hex'), expected, line);
 }
 
-/** Other bytes than these: one bit differs, or there are some. */
+/** One bit changed, or new bytes if there are none. */
 function changed(input) {
     const other = Uint8Array.from(input.length > 0 ? input : [0, 0]);
     other[randomInt(other.length)] ^= 1 << randomInt(8);

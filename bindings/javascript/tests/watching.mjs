@@ -84,7 +84,7 @@ function watchWorkers() {
 
 function tellWhatIsHeld() {
     const channel = new BroadcastChannel('memories');
-    // (and no other worker's answer)
+    // (ignores other workers' answers)
     channel.onmessage = ({ data }) => data === 'look' && channel.postMessage(look());
     channel.unref();
 }

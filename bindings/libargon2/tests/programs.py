@@ -75,7 +75,7 @@ def file_of(program):
 @pytest.mark.parametrize('program', [
     pytest.param('php', marks=of_php), pytest.param('cryptsetup', marks=of_cryptsetup),
     pytest.param('slapd', marks=of_slapd), pytest.param('cffi', marks=of_cffi)])
-def test_it_takes_either_library_from_where_it_is(program):
+def test_each_program_loads_either_library_from_its_folder(program):
     found = [re.search(r'libargon2\.so\.1 => (\S+)', run(name, 'ldd', file_of(program))[0])[1] for name in BOTH]
     assert [Path(path).resolve().is_relative_to(FOLDER) for path in found] == [False, True]
 
@@ -104,8 +104,8 @@ def test_errors(program):
 
 
 @of_php
-def test_php_over_what_is_preloaded():
-    """It takes no other."""
+def test_php_uses_the_preloaded_library():
+    """It loads no other."""
     answer(PHP, HERE / 'programs.php', 'errors', libraries=('ours', 'preloaded'))
     mapped = run('preloaded', PHP, '-r', 'echo file_get_contents("/proc/self/maps");')[0]
     assert {*re.findall(r'/\S*libargon2\S*', mapped)} == {str(FOLDER / 'libargon2.so.1')}

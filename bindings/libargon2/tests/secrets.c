@@ -1,6 +1,6 @@
 /* Whether calls of libargon2.so.1 leave anything of H0, blocks or the tag in writable memory or registers, even if a
- * name is bound late after them. With H0 a password guess costs one BLAKE2b. The proved calls (libproved_argon2.a) say
- * what to search for. It is linked with --wrap for what system.h replaces. */
+ * symbol is bound lazily after them. With H0 a password guess costs one BLAKE2b. The proved calls
+ * (libproved_argon2.a) say what to search for. It is linked with --wrap for what system.h replaces. */
 #define _GNU_SOURCE
 #include "search.h"
 

@@ -20,9 +20,9 @@
 #define LENGTH 32
 #define FIRST 20 /* calls, in which the C library takes what it keeps: stacks of threads, and a heap that has settled */
 #define TIMES 30
-#define MOST_GROWTH (4 << 20) /* bytes, of which each call would leave more if it left its memory */
+#define MOST_GROWTH (4 << 20) /* bytes: a call that leaked its memory would exceed this */
 #define GREAT (1 << 18)       /* KiB, more than the process may have */
-#define PAYING 4096           /* KiB, for which all threads pay */
+#define PAYING 4096           /* KiB, where all threads pay off */
 #define MOST_FOR_A_TEXT 16    /* threads */
 
 static const char password[] = "password", salt[] = "somesaltsomesalt";

@@ -5,7 +5,7 @@ import signal
 import time
 from pathlib import Path
 
-# A forked child that has not ended after so many seconds hangs.
+# A forked child that has not ended after this many seconds hangs.
 PATIENCE = 60
 
 

@@ -157,7 +157,7 @@ def test_cancelled_calls_free_their_places():
 
 def test_an_ended_or_cancelled_call_keeps_no_argument():
     class Argument:
-        """If a password was kept, this would be."""
+        """Stands in for a password."""
 
     async def end(hasher, is_cancelled):
         argument = Argument()

@@ -9,7 +9,7 @@ LARGE = {"time_cost": 2, "memory_cost": 128, "parallelism": 1}
 NARROW, WIDE = Limits(64, 1, 1, 64), Limits(128, 2, 1, 256)
 # The first key is the one of new hashes.
 OLD, BOTH, RENEWED = {"2025": b"old"}, {"2025": b"old", "2026": b"new"}, {"2026": b"new", "2025": b"old"}
-# What a machine has at first, and after each step: limits, settings, the new key, and its use for new hashes.
+# A machine at first, and after each step: raise the limits, change the settings, add a key, use the key.
 STEPS = [(SMALL, NARROW, OLD), (SMALL, WIDE, OLD), (LARGE, WIDE, OLD), (LARGE, WIDE, BOTH), (LARGE, WIDE, RENEWED)]
 
 

@@ -1,5 +1,5 @@
-"""Numbers that are too large or negative are rejected everywhere. The lowest 32 bits of each number here would be
-accepted, so that no call may cut off the others."""
+"""Numbers that are too large or negative are rejected everywhere. Most are chosen so that a
+call that kept only their lowest 32 bits would accept them."""
 import copy
 import dataclasses
 import pickle
@@ -92,7 +92,7 @@ def test_limits_cannot_be_changed(name):
     assert limits == DEFAULT_LIMITS == PasswordHasher().limits
 
 
-def test_limits_are_equal_if_their_fields_are_also_after_copying_and_pickling():
+def test_limits_with_equal_fields_are_equal_also_after_copying_and_pickling():
     limits = Limits(memory_cost=1, time_cost=2, parallelism=3, work=4)
     for other in (Limits(1, 2, 3, 4), copy.copy(limits), copy.deepcopy(limits), pickle.loads(pickle.dumps(limits))):
         assert (other, hash(other)) == (limits, hash(limits))
@@ -153,7 +153,7 @@ def test_a_hasher_verifies_its_own_hashes_above_the_default_limits(settings):
         assert hasher.verify(hasher.hash("password"), "password") is True
 
 
-def test_the_default_limits_are_the_library_s_raised_to_the_settings():
+def test_the_default_limits_are_those_of_the_library_raised_to_the_settings():
     number = default_limits()
     defaults = Limits(number.mem_cost, number.time_cost, number.lanes, number.work)
     assert DEFAULT_LIMITS == defaults

@@ -14,7 +14,7 @@ from proved_argon2.low_level import Memory, hash_secret, hash_secret_raw, verify
 
 # A hash that takes more than a minute, in slices of a millisecond.
 LONG = {"time_cost": 200000, "memory_cost": 8192}
-# A call may take so many seconds to stop on a machine with other work.
+# How many seconds a call may take to stop on a busy machine.
 PATIENCE = 20
 TEXT = "$argon2id$v=19$m=8192,t=200000,p=2$c29tZXNhbHQ$AAAAAAAAAAAAAAAAAAAAAA"
 PROGRAM = f"""

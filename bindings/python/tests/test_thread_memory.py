@@ -226,7 +226,7 @@ def test_a_call_that_progress_makes_does_not_use_the_buffer_of_the_other_call():
     assert asyncio.run(nest(hasher)) == expected and inner == [expected] * 4
 
 
-def test_calls_with_a_memory_of_their_own_do_not_use_the_thread_s(new):
+def test_a_call_with_its_own_memory_does_not_use_the_buffer_of_its_thread(new):
     hasher = AsyncPasswordHasher(PasswordHasher(1, 1024, 1, keep_memory=True), concurrency=1)
     hash_at_once(hasher, 1)
     assert [length for _, length in buffers(hasher)] == [0]

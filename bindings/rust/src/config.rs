@@ -77,7 +77,7 @@ impl ThreadMode {
     }
 }
 
-/// The presets have one lane. RFC 9106 recommends four for its two: set `lanes`.
+/// Presets have one lane. RFC 9106 recommends four for its two presets: set `lanes`.
 impl<'a> Config<'a> {
     // presets, by .ci/pages/presets
     /// The defaults of the original C program: Argon2i, 4 MiB, 3 passes.

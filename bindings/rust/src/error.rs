@@ -3,7 +3,7 @@ use std::fmt;
 /// The library's number for a string with a byte above 127. Such a string is no encoded hash.
 const NOT_ASCII: u32 = 66;
 
-/// What a call returns that can fail.
+/// What a fallible call returns.
 pub type Result<T> = std::result::Result<T, Error>;
 
 /// Defines the errors: first those of the library, with their numbers, and then those of this crate.

@@ -165,7 +165,7 @@ impl Drop for Buffer {
     }
 }
 
-/// The progress callback of a call. It gets the number of slices that are filled and of all slices, and returns whether
+/// The progress callback of a call. It gets the numbers of filled slices and of all slices, and returns whether
 /// the call goes on. If it panics, the call stops, and the panic goes on after the call has returned: no panic passes
 /// through C.
 pub struct Progress<'a> {

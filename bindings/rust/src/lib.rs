@@ -1,5 +1,5 @@
-//! Argon2 password hashing (RFC 9106) by a library whose hashes are computed by proved code, with the
-//! names of `rust-argon2` 3.0.
+//! Argon2 password hashing (RFC 9106). Proved code computes the hashes, and the names are those of
+//! `rust-argon2` 3.0.
 //!
 //! A program that uses `rust-argon2` changes one line of its `Cargo.toml`:
 //!

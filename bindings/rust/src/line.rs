@@ -108,8 +108,8 @@ impl Line {
         Line::keeping(places, waiting, IDLE)
     }
 
-    /// A line with a place for each hash with these settings that can run within this many bytes of memory, with one
-    /// processor per lane; at least one. 16 times as many callers may wait.
+    /// A line for hashes with these settings. It has as many places as `memory` bytes and one processor per lane allow,
+    /// at least one. 16 times as many callers may wait.
     #[must_use]
     pub fn of(config: &Config<'_>, memory: usize) -> Line {
         let processors = thread::available_parallelism().map_or(1, usize::from);

@@ -3,7 +3,7 @@ use crate::ffi::{self, Buffer, Settings, OUT_OF_MEMORY};
 use crate::{Config, Limits, Result, Run, Unverified};
 use std::{fmt, result};
 
-/// A reusable buffer, in which the calls whose names end in `_in` compute, and those of
+/// A reusable buffer for the calls whose names end in `_in`, and for those of
 /// [`Run::over`](crate::Run::over).
 ///
 /// It grows to what a call needs, and never shrinks. Before it grows, its old memory is freed, so that a call never
@@ -41,8 +41,8 @@ impl Memory {
     }
 
     /// Makes a call in this buffer, and returns its number. If the buffer is too small, it is replaced by one that fits
-    /// the settings, and the call is made again. Only a call whose settings are accepted says that a buffer is too
-    /// small.
+    /// the settings, and the call is made again. Calls report a buffer as too small only if they accept the
+    /// settings.
     pub(crate) fn call(
         &mut self,
         settings: impl FnOnce() -> Settings,
@@ -55,7 +55,7 @@ impl Memory {
         call(&mut self.buffer)
     }
 
-    /// Whether the buffer was smaller than the settings need, and has grown to that.
+    /// Replaces a buffer that is too small for the settings. Returns whether it did.
     fn grow(&mut self, settings: &Settings) -> bool {
         if self.size() as u64 >= ffi::memory_len(settings) {
             return false;

@@ -1,7 +1,7 @@
 use crate::{Config, Error, Result, Run, Unverified};
 use std::{fmt, result};
 
-/// A key by its ID, which the service stores beside each encoded hash.
+/// An ID, which the service stores beside each encoded hash, and its key.
 type Key<'a> = (&'a str, &'a [u8]);
 
 /// Peppers: secret keys, each with an ID. The service stores the ID beside the encoded hash, which does not contain the
@@ -14,7 +14,7 @@ type Key<'a> = (&'a str, &'a [u8]);
 /// hash that needs no key. If your store has such hashes, [accept them](Peppers::accept_unpeppered) until all are
 /// renewed.
 ///
-/// Each call runs by a [`Run`]: `&mut Run::new()`, or that of a [`Place`](crate::Place).
+/// Each call needs a [`Run`]: `&mut Run::new()`, or that of a [`Place`](crate::Place).
 ///
 /// # Examples
 ///
@@ -77,8 +77,8 @@ impl<'a> Peppers<'a> {
     ///
     /// # Errors
     ///
-    /// As there, [`Error::Stopped`], and [`Error::UnknownPepper`] if no key has this ID, or if it is `None` and hashes
-    /// without a pepper are not accepted.
+    /// The same errors, [`Error::Stopped`], and [`Error::UnknownPepper`] if no key has this ID, or if it is `None` and
+    /// unpeppered hashes are not accepted.
     #[allow(clippy::type_complexity)]
     pub fn verify_and_update(
         &self,
@@ -96,7 +96,7 @@ impl<'a> Peppers<'a> {
     ///
     /// # Errors
     ///
-    /// As there, and [`Error::Stopped`].
+    /// The same, and [`Error::Stopped`].
     pub fn verify_unknown(&self, run: &mut Run<'_>, pwd: &[u8]) -> Result<bool> {
         run.verify_unknown(pwd, &self.with_key(self.newest().1))
     }

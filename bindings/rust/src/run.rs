@@ -56,7 +56,7 @@ impl<'a> Run<'a> {
     }
 
     /// The same calls, with a progress callback. A call invokes it in the caller's thread each time a slice is filled,
-    /// four times in a pass, with the number of slices that are filled and of all slices.
+    /// four times in a pass, with the numbers of filled slices and of all slices.
     ///
     /// If the callback returns [`ControlFlow::Break`], the call clears its memory and returns [`Error::Stopped`]. If it
     /// panics, the call clears its memory too, and the panic goes on in the caller.

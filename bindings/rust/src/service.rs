@@ -64,7 +64,7 @@ impl Run<'_> {
     ///
     /// # Errors
     ///
-    /// As there, and [`Unverified::Refused`] with [`Error::Stopped`](crate::Error::Stopped).
+    /// The same, and [`Unverified::Refused`] with [`Error::Stopped`](crate::Error::Stopped).
     pub fn verify_and_update(
         &mut self,
         encoded: &str,
@@ -78,7 +78,7 @@ impl Run<'_> {
     ///
     /// # Errors
     ///
-    /// As there, and [`Error::Stopped`](crate::Error::Stopped).
+    /// The same, and [`Error::Stopped`](crate::Error::Stopped).
     pub fn verify_unknown(&mut self, pwd: &[u8], config: &Config<'_>) -> Result<bool> {
         let as_verified = Config { thread_mode: ThreadMode::AtMost(MOST_THREADS), ..*config };
         // (a fixed salt serves, since nobody learns the hash)

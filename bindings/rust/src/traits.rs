@@ -9,7 +9,7 @@ use password_hash::{
 /// The most bytes of a salt in a string of the crate `password-hash`.
 const MOST_OF_A_SALT: usize = 64;
 
-/// The memory in KiB, the passes, the lanes and the length of the hash. The default stands for those of the hasher.
+/// The memory in KiB, the passes, the lanes and the length of the hash. The default means the hasher's own.
 #[derive(Clone, Copy, Debug, Default, Eq, PartialEq)]
 pub struct Params(Option<Config<'static>>);
 
@@ -152,7 +152,7 @@ impl<'key> Argon2<'key> {
         &self.params
     }
 
-    /// Writes the tag of the length of `out`.
+    /// Fills `out` with a tag of its length.
     ///
     /// # Errors
     ///

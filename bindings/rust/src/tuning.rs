@@ -21,8 +21,8 @@ pub struct Tuning<'a> {
     pub load: Option<f64>,
 }
 
-/// Finds the strongest settings whose hash takes at most this long on this machine: as much memory as possible, up to
-/// that of `config`, and then as many passes as possible, within the default limits. Everything else is as in `config`.
+/// Finds strong settings whose hash takes at most this long on this machine: the memory of `config`, halved
+/// until it fits, and then as many passes as possible, within the default limits. Everything else is as in `config`.
 ///
 /// It returns `None` if even the least settings for passwords (7 MiB and 5 passes, or as much work) take longer.
 ///
@@ -101,7 +101,7 @@ mod tests {
 
     const MOST: u32 = 65536;
 
-    /// The memory and the passes that are found where a hash takes so many microseconds.
+    /// The memory and passes that are found if `measure` returns a hash's microseconds.
     fn found(within: u64, mem_cost: u32, measure: fn(u64, u64) -> u64) -> Result<Option<(u32, u32)>> {
         let most = Config { mem_cost, ..Config::default() };
         let found = search(Duration::from_micros(within), &most, &|config| {
@@ -111,7 +111,7 @@ mod tests {
     }
 
     #[test]
-    fn the_memory_is_raised_first_and_then_the_passes_until_the_time_is_used() {
+    fn the_memory_is_halved_until_a_hash_fits_and_then_passes_are_added() {
         let linear = |memory, passes| memory * passes;
         let limits = Limits::default();
         for (within, memory, passes) in

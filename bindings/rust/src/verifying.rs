@@ -139,7 +139,7 @@ pub fn needs_rehash(encoded: &str, config: &Config<'_>) -> Result<bool> {
 /// bytes.
 #[derive(Clone, Copy, Debug, Eq, PartialEq)]
 pub struct Stored {
-    /// The length of the hash in bytes. For a longer hash it is 2^32 - 1.
+    /// The length of the hash in bytes, or 2^32 - 1 if it is longer.
     pub hash_length: u32,
 
     /// The lanes.

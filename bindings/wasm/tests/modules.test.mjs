@@ -58,7 +58,7 @@ function random(seed) {
     };
 }
 
-// Calls whose answers are codes, each of which has to come, and nothing else.
+// Calls that return only valid codes, and each expected code at least once.
 class Answers {
     #found = new Set();
 
@@ -72,7 +72,7 @@ class Answers {
     }
 }
 
-// Numbers of which two at a time are odd ones.
+// Numbers, with two at a time replaced by unusual ones.
 function* withOddOnes(numbers) {
     for (let one = 0; one < numbers.length; one++) {
         for (let two = 0; two < one; two++) {
@@ -140,7 +140,7 @@ async function answersOddTexts(module) {
     answers.has(0, 19, 65, 66, 68, 69);
 }
 
-// What is beyond the memory traps, and so does each call behind it: half of a write may stand there.
+// Access beyond the memory traps, and so does each later call: a write may have stopped halfway.
 async function trapsForGood(module) {
     const memory = await Memory.open(module), place = memory.take(STORED), stored = pointer(place);
     const read = (from) => memory.call('read', from, stored);

@@ -48,7 +48,7 @@ static uint32_t (*running)(void);
 static uint32_t code;
 static size_t taken;
 
-/* The end of a thread's stack, with a page more than the guard, which lies below what is there. */
+/* The end of a thread's stack, a page above the guard at its bottom. */
 static uint8_t *end_of_stack(void)
 {
     MEMORY_BASIC_INFORMATION of_stack = {0};

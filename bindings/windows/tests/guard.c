@@ -117,7 +117,7 @@ static void ask_for_rehash(void)
     code = proved_argon2_needs_rehash(text, text_len, &settings);
 }
 
-/* Does not: it first touches a byte three pages below. */
+/* Skips pages: it first touches a byte three pages below. */
 static void jump(void)
 {
     char far[3 * PAGE];
@@ -143,6 +143,6 @@ int main(void)
     CHECK_CALL(read_text);
     CHECK_CALL(read_job);
     CHECK_CALL(ask_for_rehash);
-    check(!comes_down(jump), "what does not is found");
+    check(!comes_down(jump), "a jump is found");
     return finish(10);
 }

@@ -77,7 +77,7 @@ class Options(ctypes.Structure):
 
 
 class Refused(Exception):
-    """The library returned the number of an error. A byte above 127 makes a string an invalid encoded hash."""
+    """The library returned an error's number. NOT_ASCII, for a byte above 127, counts as an invalid encoded hash."""
 
     def __init__(self, number: int) -> None:
         number = DECODING_FAIL if number == NOT_ASCII else number
@@ -86,7 +86,7 @@ class Refused(Exception):
 
 
 def _files() -> "Iterator[str]":
-    """Yield the files that the library may be: only the one that the environment names, if it names one. Otherwise the
+    """Yield the files that may be the library: only the one that the environment names, if it names one. Otherwise the
     file in the wheel, what the system's loader finds, and the file that `./install` puts beside this Python.
     """
     named = os.environ.get(VARIABLE)
@@ -182,8 +182,8 @@ def _buffer(length: int) -> "ctypes.Array[ctypes.c_char]":
 
 
 class ProgressCallback:
-    """The progress callback of a call. It calls `progress` and lets the handlers of signals run. An exception of these
-    stops the call, and leaves the `with` block.
+    """The progress callback of a call. It calls `progress` and lets the handlers of signals run. Their exceptions
+    stop the call, and leave the `with` block.
 
     The callback resumes a generator, because Python runs handlers when it resumes one, and then the generator's `try`
     catches what they raise. In a function, handlers would run before the first line, and their exceptions be lost.
@@ -248,10 +248,10 @@ def _compute(
     progress: "Optional[Progress]",
     limits: "Optional[NumberLimits]" = None,
 ) -> None:
-    """Make a call with a thread for each lane, in a buffer of `memory` or, without one, in memory of its own.
+    """Make a call with a thread for each lane. It uses a buffer of `memory`, or allocates memory if that is `None`.
 
-    A call that finds the buffer too small is made again with a larger one: only then is it known that the library
-    accepts the settings. If the system denies the larger buffer, the call allocates memory of its own.
+    A call that finds the buffer too small is made again with a larger one: by then the library has accepted the
+    settings. If the system denies the larger buffer, the call allocates memory of its own.
     """
 
     def over_memory(callback: "Optional[ProgressCallback]") -> int:

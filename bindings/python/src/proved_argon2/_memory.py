@@ -11,9 +11,9 @@ TYPE_CHECKING = False
 if TYPE_CHECKING:
     from typing import Callable, Deque, Iterator, Optional, Tuple, Type
 
-# A `Memory` frees a buffer that no call has used for so many seconds.
+# A `Memory` frees a buffer that no call has used for this many seconds.
 IDLE_SECONDS = 60
-# A `ThreadMemory` frees a buffer if all calls of so many seconds needed at most half of it.
+# A `ThreadMemory` frees a buffer if all calls within this many seconds needed at most half of it.
 OVERSIZED_SECONDS = 10
 
 # The address of an empty buffer: a call without an address would allocate memory of its own.
@@ -144,5 +144,5 @@ class _CurrentThread(threading.local):
     memory: "Optional[ThreadMemory]" = None
 
 
-#: The buffer of the current thread, which calls use that are passed no `Memory`.
+#: The buffer of the current thread, for calls that are passed no `Memory`.
 current_thread = _CurrentThread()

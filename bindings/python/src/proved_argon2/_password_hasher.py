@@ -81,8 +81,8 @@ class PasswordHasher:
     `parallelism` the number of lanes. `hash_len` is the length of the hash in bytes, at least 4, and `salt_len` that of
     the salt, at least 8. A password that is a `str` is encoded with `encoding`.
 
-    `limits` is the most that a verified hash may cost. Pass `None` to accept whatever a hash names. Without the
-    argument, the hasher uses `DEFAULT_LIMITS`, raised to its own settings. Limits below its own settings raise
+    `limits` is the most that a verified hash may cost. Pass `None` to accept whatever a hash names. By default
+    the hasher uses `DEFAULT_LIMITS`, or its own settings where higher. Limits below its own settings raise
     `ValueError`.
 
     With `keep_memory`, the hasher reuses the memory of its calls, as `low_level.Memory` does.
@@ -220,7 +220,7 @@ class PasswordHasher:
 
         Raises `TooCostlyError` if the hash is above `limits`, and `InvalidHashError` if `hash` does not begin as an
         encoded hash. Raises `VerificationError` if the rest of it is invalid, its settings are rejected or memory
-        cannot be allocated. Raises `UnicodeEncodeError` as `hash` does.
+        cannot be allocated. Raises `UnicodeEncodeError` as `hash()` does.
         """
         encoded, secret = _encoded_bytes(hash), self._password_bytes(password)
         settings, limits = self._settings_of(encoded), numbers_of(self.limits)
@@ -306,7 +306,7 @@ class PasswordHasher:
 
 
 def _warn(name: str) -> None:
-    """Warn in the words of argon2-cffi, since programs select the warnings that they ignore by the words."""
+    """Warn in the words of argon2-cffi: programs select by these words which warnings they ignore."""
     warnings.warn(f"argon2.{name} is deprecated, use argon2.PasswordHasher instead", DeprecationWarning, stacklevel=3)
 
 

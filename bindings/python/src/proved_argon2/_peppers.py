@@ -1,4 +1,4 @@
-"""A `PasswordHasher` with several peppers, of which each stored hash has one."""
+"""A `PasswordHasher` with several peppers; each stored hash uses one of them."""
 from ._password_hasher import PasswordHasher
 from .exceptions import UnknownPepperError
 

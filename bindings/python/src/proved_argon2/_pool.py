@@ -18,7 +18,7 @@ if TYPE_CHECKING:
     from concurrent.futures import Future
     from typing import Any, Callable, Deque, Dict, List, Optional, Set, Tuple
 
-# A thread that has had no call for so many seconds frees its buffer and ends.
+# A thread that has had no call for this many seconds frees its buffer and ends.
 IDLE_SECONDS = 10
 
 
@@ -126,7 +126,7 @@ class Pool:
     def submit(self, call: "Callable[..., Any]", arguments: "Tuple[Any, ...]", named: "Dict[str, Any]") -> Job:
         """Have a thread make a call, now or later. Its place is free again when it has ended or is cancelled.
 
-        Raises `BusyError` if too many calls are computed and wait, or if there is no thread and the system denies one.
+        Raises `BusyError` if too many calls are running or waiting, or if there is no thread and the system denies one.
         """
         job = Job(call, arguments, named)
         with self._lock:
@@ -201,7 +201,7 @@ class Pool:
             worker.thread.join()
 
     def start_anew(self) -> None:
-        """Forget the parent's threads and calls, in a forked child: none of these threads exists there."""
+        """Forget the parent's threads and calls in a forked child: only the forking thread exists there."""
         workers = self._workers
         self._reset()
         for worker in workers:
@@ -224,7 +224,7 @@ def _start_all_anew() -> None:
         pool.start_anew()
 
 
-# A thread that computed while Python ends could not return from the library.
+# A thread still computing when Python ends could never return from the library.
 atexit.register(_close_all)
 if hasattr(os, "register_at_fork"):
     os.register_at_fork(after_in_child=_start_all_anew)

@@ -111,7 +111,7 @@ class Limits(Record):
         return Limits, self._values()
 
 
-#: The limits of a `PasswordHasher` without the argument `limits`, which are raised to its own settings.
+#: The limits of a `PasswordHasher` without the argument `limits`. It raises them to its own settings.
 DEFAULT_LIMITS = Limits()
 
 

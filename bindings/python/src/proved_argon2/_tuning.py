@@ -1,4 +1,4 @@
-"""A search for the strongest settings that this machine computes in a given time."""
+"""A search for strong settings that this machine computes in a given time."""
 import os
 import time
 
@@ -24,8 +24,8 @@ class Tuning(Record):
     """The settings that `tune` found.
 
     `parameters` are the settings. `milliseconds` is the time of a hash with them, the shortest of several. `load` is
-    the number of programs that ran at once in the last minute, or `None` if the system does not tell: beside other
-    programs hashes take longer.
+    the number of programs that ran at once in the last minute, or `None` if the system does not tell: other
+    programs make hashes slower.
     """
 
     __slots__ = ("parameters", "milliseconds", "load")
@@ -37,9 +37,9 @@ class Tuning(Record):
 
 
 def tune(milliseconds: float, memory_cost: int = DEFAULT_MEMORY_COST, parallelism: int = 1) -> Tuning:
-    """Find the strongest settings whose hash takes at most this number of `milliseconds` on this machine.
+    """Find strong settings whose hash takes at most this number of `milliseconds` on this machine.
 
-    The search finds as much memory as there is time for, up to `memory_cost` KiB, and then as many passes, within the
+    The search halves `memory_cost` KiB until a hash fits into the time, and then adds as many passes as fit, within the
     default limits. It computes several hashes.
 
     Raises `ValueError` if even the weakest settings that protect passwords (7 MiB and 5 passes, or the same work) take

@@ -1,4 +1,4 @@
-"""The exceptions of this package. All that argon2-cffi has are among them, under the same names."""
+"""The exceptions of this package. They include all exceptions of argon2-cffi, under the same names."""
 
 
 class Argon2Error(Exception):

@@ -7,8 +7,8 @@ A hash is computed by one thread for each lane, the caller's among them, and ver
 is a `Memory`, the call reuses a buffer of it.
 
 `progress` is called as `progress(done, all)` after each slice of the computation; there are four slices in a pass. If
-it raises an exception, the call stops, clears its memory and raises the same. So does a call in the main thread if the
-handler of a signal raises, as Ctrl-C does with `KeyboardInterrupt`.
+it raises an exception, the call stops, clears its memory and raises the same. The same happens to a call in the main
+thread if a signal handler raises, as Ctrl-C does with `KeyboardInterrupt`.
 """
 from enum import Enum
 
