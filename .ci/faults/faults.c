@@ -6,8 +6,8 @@
    REFUSE_REQUEST N  refuses the N-th request for memory
    REFUSE_START N    refuses the N-th thread start
    REFUSE_TRIES N    refuses so many in a row, since callers try again; without it, one
-   DELAY N           each new thread waits up to so many microseconds before it begins, and as long before it ends,
-                     differently for each: `late`
+   DELAY N           each new thread waits up to N microseconds (each its own time) before it begins and ends, and says
+                     `late`
 
    A Rattle program allocates only by malloc and realloc, and ends by _exit, which runs no destructor. pthread_create
    allocates by calloc, which is not replaced here. */

@@ -13,7 +13,7 @@ from runs import NO_MEMORY, NO_WORKER, SLICES, TRIES, VALUE, Hash, copy_of, run
 HASHES, FEW, LEAST = 200, 20, 198  # hashes; hashes with one thread fewer; how many of the 200 must succeed
 PASSES, LATE = 3, 1000  # microseconds
 MATRIX, BESIDE_THE_MATRIX, BESIDE_A_SLICE = 65536, 16384, 4096  # KiB
-MOST_RESIDENT, MANY = 2048, 16  # KiB, of which the program itself has most; workers
+MOST_RESIDENT, MANY = 2048, 16  # KiB, mostly the program's own; workers
 # A user ID unused by Debian and systemd: Linux counts all threads of a user.
 USER = 60706 + os.getpid() % 478
 LITTLE = {'space': (MATRIX + BESIDE_THE_MATRIX) * 1024}
@@ -42,8 +42,8 @@ def met(words, output, count=1, space=resource.RLIM_INFINITY, threads=None, **va
 def test_a_hash_needs_only_its_workers_and_the_caller(workers):
     """Hashes many times with exactly as many threads as the workers and their caller, all of them late. If workers were
     not joined, or one more were started, each slice would meet the limit and try a start again. A few do so anyway,
-    since Linux still counts a joined thread for a moment. With one thread fewer, each slice has to meet the limit; a
-    hash succeeds all the same, once a worker has ended."""
+    since Linux still counts a joined thread for a moment. With one thread fewer, half the slices have to meet the
+    limit; a hash still succeeds once a worker has ended."""
     slices = SLICES * PASSES
     enough = hashing(PASSES, 64, workers, HASHES, threads=workers + 1, DELAY=LATE)
     fewer = hashing(PASSES, 64, workers, FEW, threads=workers, DELAY=LATE)

@@ -53,7 +53,7 @@ COSTLY = [['check', '$argon2id$v=19$m=8,t=1000,p=1$$c29tZWhhc2g'], ['new', *'arg
 def ends():
     """Each result, the arguments of the runs that come to it, and how they are run. Statuses 0 and 1: only the answer
     is written. Status 2: only the refusal. Status 5: above the tool's limits, whatever else is wrong. Status 3:
-    arguments of no command, as many as 20,000."""
+    arguments that are no command, up to 20,000."""
     yield (0, TWO.output(), ''), [HASH, NEW]
     yield (0, NO_WORD.output(), ''), [['new', *NO_WORD.settings(), NO_WORD.salt.hex()]]
     yield TRUE, [VERIFY, CHECK, [*REHASH[:3], '3', *REHASH[4:]]]
@@ -102,8 +102,8 @@ def test_each_run_has_the_expected_status_and_output(name, words, how, expected)
 @pytest.mark.parametrize('name', BINARIES)
 @pytest.mark.parametrize('size', (*range(8, 250), 333, 500, 750, 1000, 4096, 65536))
 def test_words_of_each_length_are_used_completely(name, size):
-    """A shortened salt, encoded hash or password would change the output. With two lengths of tags, the encoded
-    hashes have each length."""
+    """A shortened salt, encoded hash or password would change the output. Two lengths of tags give encoded
+    hashes of every length."""
     for length in (16, 17):
         letters = bytes(48 + at % 75 for at in range(size))
         one = Hash('argon2i', 19, 1, 8, 1, length, 0, letters, letters[::-1])

@@ -56,7 +56,7 @@ def each(hashes):
 
 def blocks(settings):
     """How many blocks are compressed: the matrix in each pass, except in the first pass the first two of each lane; and
-    two for each 128 references that depend on no block, in each segment that has other blocks than those two."""
+    two for each 128 references that depend on no block, per segment, unless it has only those two."""
     length = settings.memory // (SLICES * settings.lanes)
     slices = {'argon2d': 0, 'argon2id': 2, 'argon2i': SLICES * settings.passes}[settings.variant]
     slices -= slices > 0 and length == 2

@@ -117,7 +117,7 @@ def test_a_file_that_could_change_tests_is_named_and_changes_none(tree, files, n
 
 
 def test_write_updates_the_cases_and_reasons_and_drops_old_tests(tree):
-    """It gets the run's cases and reasons, and loses tests that are gone."""
+    """The list gets the run's cases and reasons, and loses old tests."""
     run_over(tree, f'{PASSES}judge(test_idle.py QUICK)', '# The head\none | 7\none | some | rule\ngone | 1')
     assert run(tree / '.ci/gate/count', '--write', cwd=tree).returncode == 0
     assert (tree / '.ci/tests.txt').read_text(encoding='utf-8') == \

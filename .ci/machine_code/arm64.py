@@ -78,8 +78,8 @@ def inserted(words, shifted, count):
                  for kept, word in zip(words, shifted))
 
 
-# What instructions make of their operands; those of ONTO also read the register that they write. For vectors, how each
-# operand is divided follows the name.
+# What instructions make of their operands; those of ONTO also read the register that they write. For vectors, each
+# operand's arrangement follows the name.
 VECTOR = {
     'add 2d 2d 2d': each(add), 'eor 16b 16b 16b': each(lambda x, y: x ^ y), 'shl 2d 2d': each(left),
     'mov 16b 16b': tuple,
@@ -137,7 +137,7 @@ def call(to):
 
 
 def jump_if_zero(is_zero, source, to):
-    """Jumps if a word is zero, or else if it is not. It leaves the flags as they are."""
+    """cbz or cbnz: jumps if a word is zero, or is not, and leaves the flags."""
     return lambda machine: to(machine) if (known(source(machine), 'it branches on data') == 0) == is_zero else None
 
 
@@ -189,7 +189,7 @@ def decode(text):
     if form in ONTO:
         return computed(ONTO[form], readers(words), operand(words[0])[1])
     function = VECTOR.get(form) if divided else GENERAL.get(mnemonic)
-    is_shifted = any(word.partition(' ')[0] in SHIFTS for word in (mnemonic, *words))  # (by a number, all 64 bits)
+    is_shifted = any(word.partition(' ')[0] in SHIFTS for word in (mnemonic, *words))  # (only by numbers, of 64 bits)
     is_known = divided or not is_shifted or '#' in words[-1] and not any(word.startswith('w') for word in words)
     if function and len(words) > 1 and is_known:
         return computed(function, readers(words[1:]), operand(words[0])[1])

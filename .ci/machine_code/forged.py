@@ -17,7 +17,7 @@ SYMBOL, ENTRY_OF_FILE, ENTRY_OF_SECTION = 8, 24, 40  # (where a symbol has its a
 
 
 def flipped(content, place):
-    """With another multiplication."""
+    """Changes a multiplication."""
     return content[:place] + bytes([content[place] ^ 1]) + content[place + 1:]
 
 
@@ -173,7 +173,7 @@ def relocate_by_the_size_of_a_symbol(file, content):
 
 @by_changes
 def relocate_an_instruction(file, content):
-    """A linker also writes the byte in front of a distance. That byte is right only if constants are as far away as
+    """Lets a linker also write the byte before a distance. That byte is right only if constants are as far away as
     here."""
     first, code = content.index(b'\x7fELF'), code_of(file)
     elf = ELFFile(io.BytesIO(content[first:]))

@@ -118,8 +118,8 @@ class Code:
             raise Fault(f'it jumps to or calls {", ".join(map(hex, sorted(astray)))}, where no instruction begins')
 
     def misplaced(self, begin):
-        """The instructions of a function in which a linker writes other bytes than the distance that they show: another
-        link would make other instructions of them."""
+        """The instructions of a function into which a linker writes other bytes than the distance that they show, so
+        another link would change them."""
         return [text for at, (text, size) in self.bodies[begin].items() for place in range(at, at + size)
                 if place in self.relocations and not self.is_distance(place, at + size, text)]
 

@@ -14,7 +14,7 @@ from shared import TOP, has_processor, output_of
 
 MACHINE, ARCHIVE, OTHER = machines()['x86_64'], 'libargon2_c.a', TOP / 'out/rattle'
 THEIRS = '/usr/lib/x86_64-linux-gnu/libargon2.so.1'
-# This many of each of four kinds.
+# The number of calls, all kinds together.
 DRAWN, SEED = 4 * 10_000, os.environ.get('SEED') or str(random.randrange(1 << 32))
 
 

@@ -1,7 +1,7 @@
 """Translation validation of release/: the machine code of the compression computes G of RFC 9106, and that of BLAKE2b's
 compression F of RFC 7693, for all inputs, in each file and each build. Neither branches on anything except the flag
 that it is passed, computes an address from data, accesses memory except its arguments, constants and own frame, or
-changes registers that it may not. BLAKE2b's clears its working vector.
+changes registers that it may not. F clears its working vector.
 
 The code, as binutils and wabt disassemble it, runs on terms instead of numbers. Its results have to be the terms of the
 definitions. An unknown instruction, or form of one, fails by name.

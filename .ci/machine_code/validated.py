@@ -39,7 +39,7 @@ class Function:
     calls: int
 
     def run(self, code, begin, flag, entry, values=None):
-        """A machine after a run over values, or else a variable for each word; and what is wrong with it, or None."""
+        """Runs over values, or else a variable for each word; returns the machine, and what is wrong or None."""
         sizes = {name: WORD * size for name, size in self.regions.items()}
         machine = code.kind(code, sizes, self.written, entry)
         regions = {name: [variable(f'{name}{index}') for index in range(size)] for name, size in self.regions.items()}

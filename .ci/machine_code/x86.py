@@ -111,7 +111,7 @@ def by_lanes(function):
 
 
 def places(words, width, count):
-    """The elements of words that are numbers: each is a place. LLVM may count on from `count` in an upper half."""
+    """Elements of constant words, each of which is a place. In an upper half, LLVM's places may begin at `count`."""
     found = [word >> at & (1 << width) - 1 for word in words if isinstance(word, int) for at in range(0, BITS, width)]
     if len(found) < len(words) * BITS // width or {place // count for place in found} not in ({0}, {1}):
         raise Fault('it shuffles by other than places')

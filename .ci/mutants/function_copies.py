@@ -107,7 +107,7 @@ class Report:
 
 
 def is_put_there(error):
-    """Whether an error is the fault of a wrong body's answers."""
+    """Whether an error is that of the planted FAULT."""
     return error[2].startswith(f'`{NO_OFFERS}`: ')
 
 

@@ -1,7 +1,7 @@
 """What pages claim of the sources and of the toolchain: what depends on secrets (bindings/c/tests/secrets/depends.txt),
 what the prover takes without proof, and the hash of each group of files of pinned.txt.
 
-No test would notice if those files accepted one more password than the proved calls, so each change must be visible.
+No test would notice if pinned files accepted one more password than the proved calls, so each change must be visible.
 """
 
 import hashlib

@@ -126,7 +126,7 @@ def hash_of(texts):
 
 
 def doors():
-    """Each in the order in which its files are listed."""
+    """The doors: the first that needs a file lists it."""
     functions = Sources().functions
     free = [call for call in functions if call.path and not call.owner]
     for_c = [call for call in functions if call.crate == 'argon2_c'

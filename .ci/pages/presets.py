@@ -44,7 +44,7 @@ def one_line(text):
 
 
 def presets():
-    """What each placeholder stands for, by a preset."""
+    """What each placeholder means, for each preset."""
     text = one_line(read('crates/argon2_standard/src/config.rt'))
     found = [preset.groupdict() for preset in PRESET.finditer(text)]
     require(len(found) == text.count('pub fn') - text.count('&self)'), 'a preset of config.rt has another form')

@@ -1,4 +1,4 @@
-"""What pages name exists, judged by its spelling:
+"""Whatever a page names exists, judged by spelling:
 
 - a path is what has a `/` or the ending of a file of this repository, between backquotes, in a link or as a command;
 - a command is a line after four blanks or in a fence for sh, or words between backquotes that begin with a command;
@@ -44,7 +44,7 @@ WORD_IN_HELP = r'(?:\brt |\||\b\d:|#     \./argon2 |"){}(?![\w-])'
 # A link with its words, its path and its heading; a page's name; and the pages that are packed without the others.
 LINK = re.compile(r'\[([^\]]*)\]\((?!\w+:)([^)\s#]*)#?([^)\s]*)\)')
 PAGE, PACKED = re.compile(r'(?<![\w/.])(?:docs/)?[A-Z][A-Z0-9]*\.md'), re.compile(r'bindings/\w+/README\.md')
-# Names, links, paths and code, which have public words; and the words on the right of the table of CONTRIBUTING.md.
+# Names, links, paths and code, not searched since public; and the right column of the table of CONTRIBUTING.md.
 NAMED = re.compile(r'`[^`]*`|\]\([^)]*\)|\S*(?:[_/]|::|\.\w)\S*')
 SAID_OTHERWISE = re.compile(r'^\| [^|]* \| [^|]* \| (?!Not)(\w[^|]*) \|$', re.M)
 

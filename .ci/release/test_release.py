@@ -194,8 +194,8 @@ def test_a_forgery_is_found(copy, tmp_path, request, name):
     assert not (tmp_path / 'made').exists()
 
 
-# Stand-ins: the versions installed here are not those of the list, and a chroot with the listed ones links the files
-# of release/.
+# Stand-ins pretend that other versions than the listed are installed here, and that a chroot with those listed links
+# the files of release/.
 STAND_INS = {
     'dpkg-query': '/usr/bin/dpkg-query "$@" | sed "s/wabt=[^ ]*/wabt=0/"', 'debootstrap': 'mkdir -p "$4"',
     'chroot': '[ "${2##*/}" != link ] || { mkdir -p "$1/linked" && cp -R "release/$3" "$1/linked"; }'}

@@ -90,7 +90,7 @@ def made():
 
 @pytest.fixture
 def wine(tmp_path):
-    """What runs a program by wine with a folder of its own, and nothing that fetches what it lacks or writes menus."""
+    """What runs a program by wine in its own folder, without parts that fetch what is missing or write menus."""
     if not shutil.which('wine'):
         pytest.skip('there is no wine')
     how = named(WINEPREFIX=tmp_path / 'wine', WINEDEBUG='-all', WINEDLLOVERRIDES='mscoree,mshtml,winemenubuilder.exe=')
@@ -261,7 +261,7 @@ def test_machine_code_is_that_for_linux_and_spares_the_stack(made, tmp_path, nam
     assert max(frames) < PAGE
 
 
-def test_dll_has_the_calls_of_the_headers_alone_needs_the_system_alone_and_can_be_anywhere(made):
+def test_dll_exports_only_header_calls_needs_only_the_system_and_can_be_anywhere(made):
     of_dll = output_of(f'{TOOLS}objdump', '-p', made / WINDOWS / DLL)
     calls = re.findall(r'\[ *\d+\] (?:\+base\[ *\d+\] +[0-9a-f]+ )?(proved_\w+)$', of_dll, re.M)
     linux = re.findall(r' T (\w+)', output_of('nm', '-D', '--defined-only',

@@ -106,7 +106,7 @@ class Sources:
         self.tests = {f.name: f for f in self.functions if f.is_test}
         texts = '\n'.join(module.text for module in self.modules.values())
         self.hidden = {'Model', *re.findall(r'^(?:pub\(crate\) )?trait (\w+)', texts, re.M)}
-        self.places = {}  # the path that users go by, by the place where an item stands
+        self.places = {}  # an item's public path, by the place where it stands
         for crate in crates():
             self.walk((crate,), (crate,))
         for function in (f for f in self.functions if not f.module.is_test):
@@ -141,7 +141,7 @@ class Sources:
 
 
 class Edit:
-    """A mutant: its crate, its pairs of texts, the goals that it names where it has to be rejected, and the functions
+    """A mutant: its crate, its pairs of texts, the goals that it names and has to break, and the functions
     in whose spans the texts stand. `function` is that of the last pair. `fault` says why it cannot be tried."""
 
     def __init__(self, crate, block, sources):
@@ -156,7 +156,7 @@ class Edit:
         self.fault = next(self.faults(counts, sources), None)
 
     def parse(self):
-        """The file of each pair of texts, and the pair: the second replaces the first. None if this is no edit."""
+        """The file of each pair of texts, and the pair: the second replaces the first. Empty if this is no edit."""
         found = PAIR.findall(self.text) if EDIT.fullmatch(self.text) else []
         files = accumulate((path for path, *_ in found), lambda last, path: path or last)
         return [(TOP / 'crates' / self.crate / file, *texts) for file, (_, *texts) in zip(files, found)]

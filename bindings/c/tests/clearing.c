@@ -1,7 +1,7 @@
 /*
  * Whether calls that hash or verify leave no secrets except those that SECURITY.md names, whatever they return. It
  * searches what is passed to free and, after a call, the vector registers and all writable memory of the process.
- * proved_clearing.c tests the proved calls. It is linked with --wrap to look at requests and deny them.
+ * proved_clearing.c tests the proved calls. This is linked with --wrap to look at requests and deny them.
  *
  *     clearing            all checks
  *     clearing unwiped    the same with clearing turned off: each check must find something
@@ -429,7 +429,7 @@ static void check_late(size_t name)
 
 /* ---- out of core dumps */
 
-/* Whether the system has noted that a core dump leaves out what is left of the last mapping. */
+/* Whether the system has noted to keep what remains of the last mapping out of core dumps. */
 static bool is_left_out_of_dumps(void)
 {
     FILE *const maps = fopen("/proc/self/smaps", "r");
@@ -448,7 +448,7 @@ static bool is_left_out_of_dumps(void)
     return is_left_out;
 }
 
-/* A pool that looks at each of its runs. */
+/* A pool that looks at the mapping each run. */
 static int looks_at_mapping(void *pool, uint32_t tasks, void (*task)(void *, uint32_t), void *arg)
 {
     bool *const good = pool;

@@ -1,7 +1,7 @@
 /*
  * Random calls of all sizes: up to a gibibyte or a quarter of the free memory, hundreds of lanes and threads, and a tag
  * of a mebibyte. Each must return libargon2's tag, and start the threads, request the memory and write the blocks that
- * its settings require, so that none is rejected, truncated or repeated from some size on. It is linked with --wrap for
+ * its settings require, so no call is rejected, truncated or repeated above some size. It is linked with --wrap for
  * what it counts, and over a library in which each block that is written adds one to a number (plant_leak.py).
  *
  *     drawn_settings [SEED]           the seed is printed
@@ -71,7 +71,7 @@ static size_t length_of(const proved_argon2_settings *of)
     return of->mem_cost / (4 * of->lanes);
 }
 
-/* How many blocks are compressed: the matrix in each pass, except in the first the first two of each lane; and two per
+/* How many blocks are compressed: the matrix in each pass, without each lane's first two in the first pass; and two per
  * 128 pseudorandom numbers that depend on no block, in each segment (RFC 9106, 3.4.1.2) that has other blocks. */
 static size_t blocks_of(const proved_argon2_settings *of)
 {
@@ -86,7 +86,7 @@ static size_t blocks_of(const proved_argon2_settings *of)
 /* How a call is made: each of the four with threads; the first without options; and twice in a buffer of memory_new. */
 enum way { RAW, ENCODED, VERIFY, VERIFY_ENCODED, PLAIN, REUSED };
 
-/* How many threads it uses, at most so many: only the caller's if more are slower. */
+/* How many threads it uses, up to `most`: only the caller's if more are slower. */
 static size_t threads_of(const proved_argon2_settings *of, uint32_t most)
 {
     const size_t bytes = 4 * length_of(of) * of->lanes * BLOCK;

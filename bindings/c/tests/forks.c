@@ -104,8 +104,8 @@ static int fork_in_the_middle(void *child, uint64_t done, uint64_t all)
     return 0;
 }
 
-/* Whether a child forked by the callback goes on alone, although it has the parent's process ID, and the parent with
- * two threads. Parts are long, so neither thread takes the other's. */
+/* Whether the callback's child goes on alone despite having the parent's process ID, and the parent goes on with two
+ * threads. Parts are long, so neither thread takes the other's. */
 static bool both_go_on(void)
 {
     pid_t child = -1;

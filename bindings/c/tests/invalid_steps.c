@@ -23,7 +23,7 @@ static bool answers(uint32_t (*step)(void), uint32_t expected, size_t from, size
 
 #define ITS(field, len) offsetof(struct written, field), len
 
-/* The next value that a number encodes; reduces the number. */
+/* Takes the next of the values that a number encodes. */
 static size_t next_of(const size_t *values, size_t count, size_t *number)
 {
     const size_t at = *number % count;

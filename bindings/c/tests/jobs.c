@@ -65,7 +65,7 @@ static void check_over(const proved_argon2_job *job)
     memset(ad, 4, sizeof ad);
     check(proved_argon2_memory_len(&rfc) == 32 * 1024, "the bytes of its blocks");
     check_code(proved_argon2_job_hash_over(job, blocks, 32, tag, 32), PROVED_ARGON2_OK, "its tag in one call");
-    check(is_hex(tag, 32, tag_of_rfc), "is the same");
+    check(is_hex(tag, 32, tag_of_rfc), "the right tag");
     fill_bytes((uint8_t *)blocks, sizeof blocks, 9);
     check_code(proved_argon2_job_verify_over(job, blocks, 32, tag, 32, again, 32), PROVED_ARGON2_OK, "its verdict");
     check(memcmp(tag, again, 32) == 0, "and its tag is there");
@@ -79,7 +79,7 @@ static void check_over(const proved_argon2_job *job)
     check(is_hex(again, 32, tag_of_rfc), "its tag is there");
     check_code(proved_argon2_hash_over(pwd, 32, salt, 16, secret, 8, ad, 12, &rfc, blocks, 32, tag, 32),
         PROVED_ARGON2_OK, "the tag of its inputs");
-    check(is_hex(tag, 32, tag_of_rfc), "is the same as well");
+    check(is_hex(tag, 32, tag_of_rfc), "the tag as well");
 }
 
 /* Runs a job after its inputs were cleared. */

@@ -172,7 +172,7 @@ static int measures(void *arg, uint64_t done, uint64_t all)
     return done > all;
 }
 
-/* Whether a hash takes no more memory than its memory cost, and a little more for each thread. */
+/* Whether a hash takes no more memory than its memory cost plus a little for each thread. */
 static bool takes_no_more(uint32_t mem_cost, uint32_t threads)
 {
     enum { BESIDE = 64 * 1024, OF_A_THREAD = 48 * 1024 };

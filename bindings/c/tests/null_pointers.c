@@ -12,7 +12,7 @@
 
 ssize_t __wrap_getrandom(void *buffer, size_t length, unsigned flags);
 
-/* Fails if all other arguments are invalid. */
+/* Fails once spoil() made the arguments invalid. */
 ssize_t __wrap_getrandom(void *buffer, size_t length, unsigned flags)
 {
     fill_bytes(buffer, length, 0x80);
@@ -77,7 +77,7 @@ static uint32_t memory_free(void)
     return code;
 }
 
-/* Outputs are checked only if allocation is denied; the buffer is freed. */
+/* Frees a new buffer; outputs are checked only if there is none. */
 static uint32_t memory_new(void)
 {
     const uint32_t code = proved_argon2_memory_new(

@@ -103,7 +103,7 @@ static void check_version(uint32_t version, const char *expected, const char *na
 
 /* ---- limits */
 
-/* The first error of settings and lengths; few inputs can be read. */
+/* The first error of settings and lengths, over mostly unreadable inputs. */
 struct request {
     proved_argon2_settings settings;
     size_t pwd, salt, secret, ad;
@@ -145,7 +145,7 @@ static void check_limits_of_settings(void)
     check_code(error_of(request), PROVED_ARGON2_WRONG_LENGTH, "the longest hash");
 }
 
-/* Each greatest length returns the next error of the table. */
+/* With a length at its limit, the next check fails. */
 static void check_limits_of_inputs(void)
 {
     struct request request = {small, (size_t)PROVED_ARGON2_MAX_PWD_LENGTH + 1, 8, 0, 0};

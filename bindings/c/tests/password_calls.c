@@ -41,7 +41,7 @@ static void check_password(void)
     check_code(proved_argon2_password_verify(text, "pass\0word", 9), PROVED_ARGON2_OK, "it verifies");
     check_code(proved_argon2_password_verify(text, "pass\0wore", 9), PROVED_ARGON2_MISMATCH, "another one does not");
     check_code(proved_argon2_password_verify(text, "pass", 4), PROVED_ARGON2_MISMATCH, "its beginning does not");
-    check_code(proved_argon2_password_verify(text, NULL, 0), PROVED_ARGON2_MISMATCH, "no password does not");
+    check_code(proved_argon2_password_verify(text, NULL, 0), PROVED_ARGON2_MISMATCH, "an empty one does not");
     check_code(proved_argon2_password_verify("x", "pass", 4), PROVED_ARGON2_DECODING_FAIL, "what is no text");
     const uint64_t by_work = most.work / most.mem_cost, passes = by_work < most.time_cost ? by_work : most.time_cost;
     for (unsigned above = 0; above < 2; above++) {
@@ -140,7 +140,7 @@ static uint32_t rehash_verdict(proved_argon2_options options, const char *text, 
     return proved_argon2_password_verify_with(&options, text, guess, strlen(guess), pepper, pepper_len);
 }
 
-/* Each setting that is another one makes a rehash due, and no wrong password or pepper does. */
+/* Each setting that differs makes a rehash due, and no wrong password or pepper does. */
 static void check_other_settings(const char *text)
 {
     proved_argon2_settings new_settings = small;

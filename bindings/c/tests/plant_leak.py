@@ -21,7 +21,7 @@ from machines import machines  # noqa: E402
 FACE, DRIVER = TOP / 'bindings/c', TOP / 'bindings/c/src'
 FLAGS = [*'-std=gnu11 -D_GNU_SOURCE= -O2 -Wall -Wextra -Werror -pthread -I'.split(), FACE / 'include', '-I', DRIVER]
 COMPRESSION = 'argon2_blocks::block::kernel::fill_words'
-# By leak: the functions, and the code that runs before them. C passes arguments in the registers that it names.
+# By leak: the functions, and the code that runs before them. C passes arguments in the registers named there.
 LEAKS = {
     # what overwrites bytes, words or the stack returns at once
     'nothing_is_overwritten': dict.fromkeys((

@@ -151,7 +151,7 @@ static bool have_inputs(void)
         || memmem(blocks, sizeof blocks, MANY_CALL.secret, 8) != NULL;
 }
 
-/* Whether a register that a call may change, except that of its result, has half of a piece. */
+/* Whether one of the registers in `general` (search.h) has half of a piece. */
 static bool is_in_general_registers(void)
 {
     const size_t halves = 2 * sought->count;

@@ -60,7 +60,7 @@ static uint32_t log_in(struct worker *worker, const char *stored, const char *pa
         : proved_argon2_password_verify_with(&worker->options, stored, password, length, NULL, 0);
 }
 
-/* The tag of a password, which is cleared meanwhile. */
+/* Whether the tag of a cleared password is right. */
 static bool clears_the_password(uint8_t *pwd, size_t pwd_len, const uint8_t *salt)
 {
     const proved_argon2_settings settings = proved_argon2_owasp2();

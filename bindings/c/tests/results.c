@@ -337,7 +337,7 @@ static void check_reading_within(void)
 
 /* ---- limits */
 
-/* Verifies that text within limits: its salt has 8 bytes, its passes are 0. */
+/* Verifies `text` within limits: its salt has 8 bytes, its passes are 0. */
 static uint32_t within(uint32_t mem_cost, uint32_t time_cost, uint32_t lanes)
 {
     const proved_argon2_limits limits = {mem_cost, time_cost, lanes, 0};

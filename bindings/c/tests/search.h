@@ -61,8 +61,8 @@ static inline void keep(known *to, enum kind kind, const void *bytes)
     to->parts[to->count++].kind = kind;
 }
 
-/* For the last lane's two first blocks, which are chains of hashes: part of the last hash and of the one before, whose
- * first half the block has. */
+/* For the last lane's first two blocks, chains of hashes: part of the last hash, and of the one before, whose first
+ * half is in the block. */
 static inline void keep_chains(const proved_argon2_block *first, known *to)
 {
     for (size_t column = 0; column < 2; column++) {
@@ -107,7 +107,7 @@ static inline void keep_seeds(const proved_argon2_job *job, known *to)
     }
 }
 
-/* The exclusive or of the last blocks; that of one lane is in the matrix. */
+/* The exclusive or of the last blocks; with one lane, it is in the matrix. */
 static inline void keep_last(const proved_argon2_job *job, const proved_argon2_block *slice, known *to)
 {
     uint64_t words[PART / 8] = {0};
@@ -234,18 +234,21 @@ static inline void look_everywhere(void)
 static void (*calls_behind)(void);
 
 /* The contents, after a call, of other registers that it may change. */
-static uint64_t general[9];
+static uint64_t general[18];
 
+/* The address is in a register that calls keep, so that it replaces none of the others. */
 /* clang-format off */
-#define NOTE_GENERAL(instruction, number) __asm__ volatile(instruction ", %0" : "=m"(general[number]))
 #if defined(__aarch64__)
-#define NOTE_ALL_GENERAL() NOTE_GENERAL("str x8", 0); NOTE_GENERAL("str x9", 1); NOTE_GENERAL("str x10", 2); \
-    NOTE_GENERAL("str x11", 3); NOTE_GENERAL("str x12", 4); NOTE_GENERAL("str x13", 5); NOTE_GENERAL("str x14", 6); \
-    NOTE_GENERAL("str x15", 7); NOTE_GENERAL("str x17", 8)
+#define NOTE_ALL_GENERAL() \
+    register uint64_t *const noted __asm__("x19") = general; \
+    __asm__ volatile("stp x0, x1, [%0]; stp x2, x3, [%0, 16]; stp x4, x5, [%0, 32]; stp x6, x7, [%0, 48]; " \
+        "stp x8, x9, [%0, 64]; stp x10, x11, [%0, 80]; stp x12, x13, [%0, 96]; stp x14, x15, [%0, 112]; " \
+        "stp x16, x17, [%0, 128]" : : "r"(noted) : "memory")
 #else
-#define NOTE_ALL_GENERAL() NOTE_GENERAL("mov %%rax", 0); NOTE_GENERAL("mov %%rcx", 1); NOTE_GENERAL("mov %%rdx", 2); \
-    NOTE_GENERAL("mov %%rsi", 3); NOTE_GENERAL("mov %%rdi", 4); NOTE_GENERAL("mov %%r8", 5); \
-    NOTE_GENERAL("mov %%r9", 6); NOTE_GENERAL("mov %%r10", 7); NOTE_GENERAL("mov %%r11", 8)
+#define NOTE_ALL_GENERAL() \
+    register uint64_t *const noted __asm__("rbx") = general; \
+    __asm__ volatile("mov %%rax, (%0); mov %%rcx, 8(%0); mov %%rdx, 16(%0); mov %%rsi, 24(%0); mov %%rdi, 32(%0); " \
+        "mov %%r8, 40(%0); mov %%r9, 48(%0); mov %%r10, 56(%0); mov %%r11, 64(%0)" : : "r"(noted) : "memory")
 #endif
 /* clang-format on */
 

@@ -1,6 +1,6 @@
 /*
  * The threads of a call: each blocks the program's signals, has a small stack, and is joined; others fill the lanes of
- * denied threads; none starts if that would be slower; very many use little more processor time than one; and a call
+ * denied threads; none starts if that would be slower; 16,000 use at most eight times one's processor time; and a call
  * ends normally if its thread is cancelled meanwhile. drawn_settings.c counts them. Tags are compared with libargon2's.
  * It is linked with --wrap for what it counts and refuses.
  *
@@ -177,7 +177,7 @@ static void check_state(void)
     const uint32_t code = hash_raw(&with, &call, tag);
     pthread_setcancelstate(PTHREAD_CANCEL_ENABLE, &after);
     check(code == PROVED_ARGON2_OK && before_call == PTHREAD_CANCEL_ENABLE && after == PTHREAD_CANCEL_DISABLE,
-        "whether the thread can be cancelled is as it was");
+        "the thread's cancel state is unchanged");
 }
 
 /* ---- a program with thread-local variables */

@@ -47,7 +47,7 @@ OF_SYSTEM = set("""_GLOBAL_OFFSET_TABLE_ __errno_location __stack_chk_fail align
     pthread_attr_setguardsize pthread_attr_setstacksize pthread_create pthread_join pthread_setcancelstate
     pthread_sigmask secure_getenv sem_destroy sem_init sem_post sem_wait sigfillset strcmp strlen sysconf""".split())
 # The features that x86-64-v2 and x86-64-v3 need, except what an older qemu or glibc needs itself: the driver's names
-# and qemu's. Then those that x86-64-v4 needs, and qemu's processors that lack one.
+# and qemu's. Then x86-64-v4's, and qemu's processors without one of the former.
 OF_V2 = dict(CX16='cx16', SSE4_2='sse4.2', POPCNT='popcnt', LAHF_LM='lahf-lm')
 OF_V3 = dict(FMA='fma', MOVBE='movbe', bit_OSXSAVE='xsave', AVX='avx', F16C='f16c', BMI1='bmi1', AVX2='avx2',
              BMI2='bmi2', ABM='abm')
@@ -188,7 +188,7 @@ def symbols(*words):
     return [line.split() for line in output_of('nm', *words).splitlines()]
 
 
-def test_calls_the_system_alone():
+def test_needs_only_system_functions():
     defined = {words[2] for words in symbols(ARCHIVE) if len(words) == 3}
     assert {words[1] for words in symbols(ARCHIVE) if words[:1] == ['U']} - defined - OF_SYSTEM == set()
     seen = [words[2] for words in symbols('-g', '--defined-only', ARCHIVE) if len(words) == 3]
@@ -242,7 +242,7 @@ def test_takes_the_build_for(cpu, build):
 
 @needs_qemu
 @pytest.mark.parametrize('feature', sorted({*OF_V2, *OF_V3} - {'AVX'}))
-def test_finds_what_is_not_asked_for(feature, objects):
+def test_an_unchecked_feature_is_detected(feature, objects):
     """(What has AVX2 has AVX.)"""
     asked = rf'(?<=[{{ ]){feature}(, |(?=}}))| && \(\S+ / 32\] & {feature}\) != 0'
     program, cpu = planted(objects, asked, ''), 'Haswell'

@@ -260,7 +260,7 @@ static void check_options(void)
         uint8_t zeros[4096];
     } longer = {by(4), 0, {0}};
     longer.known.size = 4097;
-    check_refused(&longer.known, PROVED_ARGON2_WRONG_LENGTH, "options that are longer than any, of zeros");
+    check_refused(&longer.known, PROVED_ARGON2_WRONG_LENGTH, "options longer than any, all zeros");
     longer.later = 1;
     longer.known.size = offsetof(struct longer, zeros);
     check_refused(&longer.known, PROVED_ARGON2_WRONG_LENGTH, "options of a later version");

@@ -1,6 +1,6 @@
 /* The library's answers to the calls of a file, a line each (CONTRIBUTING.md): `lines raw FILE COUNT`
- * hashes and verifies by one thread and by two, and `lines texts FILE COUNT` verifies strings. So many lines have to be
- * as they should. */
+ * hashes and verifies by one thread and by two, and `lines texts FILE COUNT` verifies strings. Exactly COUNT lines
+ * have to be right. */
 #include "proved_argon2.h"
 
 #include <stdio.h>
@@ -40,7 +40,7 @@ static uint32_t variant_of(const char *name)
     (inputs)->bytes[0], (inputs)->len[0], (inputs)->bytes[1], (inputs)->len[1], (inputs)->bytes[2], (inputs)->len[2], \
         (inputs)->bytes[3], (inputs)->len[3]
 
-/* Whether a call by some threads gives the tag, and finds that it is that one and no other. */
+/* Whether calls with this many threads return the tag, accept it, and reject another one. */
 static int gives(
     uint32_t threads, const struct inputs *inputs, const proved_argon2_settings *settings, const char *result)
 {

@@ -1,5 +1,5 @@
-/* Memory of about as many bytes as there are addresses of 32 bits: what says that it has some has all of it, and what
- * needs more than there are addresses says that it has none. It is linked with --wrap=proved_argon2_check_encoded. */
+/* Asks for about 4 GiB, all that addresses of 32 bits reach. A call that returns memory returns all of it, and one that
+ * needs more than there are addresses returns none. It is linked with --wrap=proved_argon2_check_encoded. */
 #include "proved_argon2.h"
 
 #include <stdio.h>
@@ -7,7 +7,7 @@
 uint32_t __wrap_proved_argon2_check_encoded(const char *text, size_t text_len, const proved_argon2_limits *limits,
     uint64_t pwd_len, uint64_t secret_len, uint64_t ad_len, proved_argon2_stored *stored);
 
-/* Accepts a text of 2 GiB of a tag, of which the library keeps two. */
+/* Claims that a text has a tag of 2 GiB; the library keeps two. */
 uint32_t __wrap_proved_argon2_check_encoded(const char *text, size_t text_len, const proved_argon2_limits *limits,
     uint64_t pwd_len, uint64_t secret_len, uint64_t ad_len, proved_argon2_stored *stored)
 {

@@ -63,7 +63,7 @@ static bool has_another_run(void)
 static void must(bool holds, const char *what)
 {
     if (!holds) {
-        printf("fault: %s;%s%s%s%s%s%s, at", what, asked.is_large ? " large" : "",
+        printf("violated: %s;%s%s%s%s%s%s, at", what, asked.is_large ? " large" : "",
             asked.is_callers ? " caller's memory" : "", asked.is_verdict ? " verdict" : "",
             asked.has_progress ? " progress" : "", asked.has_pool ? " pool" : "", asked.is_long ? " long" : "");
         for (size_t i = 0; i < depth; i++) {
@@ -159,7 +159,7 @@ static void switch_to(uint32_t next)
     __sanitizer_finish_switch_fiber(before->fake, NULL, NULL);
 }
 
-/* ---- the model, of which each run has to be a run */
+/* ---- the model, which must allow each run */
 
 #define MOVES(X) X(Wakes) X(Enters) X(Claims) X(Runs) X(Strays) X(Writes) X(Completes) X(Fails) X(Advances) X(Stops)
 #define VALUE(name) name,

@@ -104,4 +104,4 @@ def test_each_fault_is_found(found, name):
     said = found(name)
     assert said, 'no run finds it'
     move, is_move, _ = name.partition(': ')
-    assert not is_move or said.startswith(f'fault: {move};'), said
+    assert not is_move or said.startswith(f'violated: {move};'), said

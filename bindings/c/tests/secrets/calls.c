@@ -54,12 +54,12 @@ static int tell_here(void *arg, uint64_t done, uint64_t all)
     return done > all;
 }
 
-/* No text is above these, but a call has to compare them. */
+/* No text exceeds these limits, but each call must compare them. */
 static const proved_argon2_limits WIDEST = {UINT32_MAX, UINT32_MAX, UINT32_MAX, UINT64_MAX};
 
-/* By number: a plain call, which makes one proved call; a call in a reusable buffer; one in steps in this thread, with
-   a progress callback; one by four threads; and one in memory of this program, with its pool, one task for each lane,
-   and its progress callback. */
+/* In order of OPTIONS: a plain call, which makes one proved call; a call in a reusable buffer; one in steps in this
+   thread, with a progress callback; one by four threads; and one in this program's memory, with its pool, one task per
+   lane, and its progress callback. */
 static proved_argon2_options REUSED = {.size = sizeof REUSED, .limits = &WIDEST};
 static const proved_argon2_options PROGRESS = {
     .size = sizeof PROGRESS, .limits = &WIDEST, .threads = 1, .progress = tell_here, .arg = &answer.calls_back};
@@ -114,7 +114,7 @@ static void hide_secrets(void)
     hide(&question.fields[VERIFIED].at[question.open], question.fields[VERIFIED].length - question.open);
 }
 
-/* The driver tries which stack is large enough, with a guard for which there is no memory (room_for_variables). Under
+/* The driver tries out which stack is large enough, with a guard too large to map (room_for_variables). Under
    valgrind each try fails, whatever the stack. So we reject the guard at once, as musl does. */
 int pthread_attr_setguardsize(pthread_attr_t *attributes, size_t size)
 {
@@ -139,5 +139,5 @@ int main(void)
     }
     proved_argon2_memory_free(REUSED.memory, REUSED.memory_len);
     fflush(stdout);
-    _exit(EXIT_SUCCESS); /* (where search.c looks: exit does not call it) */
+    _exit(EXIT_SUCCESS); /* (search.c replaces _exit, which exit does not call) */
 }

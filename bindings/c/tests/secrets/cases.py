@@ -1,5 +1,6 @@
-"""Questions to calls.c from the vectors of others, and the expected answers: memcheck reports nothing on the way to a
-tag or a text, and the tag, the text's letters or the verdict are undefined, so no branch has looked at them before.
+"""Questions to calls.c from other implementations' vectors, and the expected answers: memcheck reports nothing until a
+tag or a text is computed. The tag, the text's letters or the verdict are still undefined, so no branch depended on
+them.
 Each reading of a stored hash has two branches on all its letters: whether they are ASCII, and whether they are base64.
 A block that another block selects is reported at each place that finds or reads it (test_constant_time.py)."""
 
@@ -24,7 +25,7 @@ OK, DECODING_FAIL, MISMATCH = 0, 19, 64
 # Only vectors that write at most FEW_BLOCKS are asked, and one with more than MAPPED_BLOCKS in its memory. Each byte of
 # a hash is changed alone if the verdicts cost at most CHEAP.
 FEW_BLOCKS, MAPPED_BLOCKS, CHEAP = 640, 1024, 2048
-# From how many blocks on, and from how many in all passes, C starts threads (proved_argon2_driver.c).
+# The fewest blocks, and blocks over all passes, for which C starts threads (proved_argon2_driver.c).
 OF_THREADS, IN_ALL_PASSES = 2048, 4096
 OF_A_TEXT = 4  # reports: of two branches, in each of two calls (check_encoded and job_read)
 CAPACITY = 4096
@@ -59,8 +60,8 @@ class Vector(NamedTuple):
         return self.passes * self.memory
 
     def references(self):
-        """How many blocks draw their reference from a block: in Argon2i none, else all but the first two of each lane,
-        and in Argon2id only those behind the first two slices of the first pass (RFC 9106, 3.4)."""
+        """How many blocks have a reference that a block selects: none in Argon2i; in Argon2d all except the first two
+        of each lane; in Argon2id all after the first two slices of the first pass (RFC 9106, 3.4)."""
         slices = self.lanes * (self.memory // (4 * self.lanes))
         others = 2 * self.lanes, 4 * slices * self.passes, 2 * slices
         return 4 * slices * self.passes - others[self.variant]
@@ -88,7 +89,7 @@ class Question(NamedTuple):
         return self.vector.references() if self.code != DECODING_FAIL else 0
 
     def is_right(self, came, reads):
-        """A verdict is hidden, but not that a string is no encoded hash. Of a tag, every bit is hidden; of
+        """A verdict is hidden, but DECODING_FAIL for a malformed hash is not. Of a tag, every bit is hidden; of
         an encoded hash, at least one bit of each letter of its tag; and nothing else. Each reference is read at `reads`
         places."""
         is_read = self.code != DECODING_FAIL
@@ -108,7 +109,7 @@ def answers(said):
 
 
 def of_libargon2(vector, salt):
-    """The text of another implementation, with the letters of a salt, which may have been drawn meanwhile."""
+    """The text that libargon2 writes with this base64 salt, which password_hash may have drawn."""
     return hash_secret(vector.password, base64.b64decode(salt + b'=='), vector.passes, vector.memory, vector.lanes,
                        vector.length, Type(vector.variant), vector.version)
 
@@ -141,7 +142,7 @@ def verdicts(vector):
 
 
 def stored(text):
-    """A text as it is also stored if its version is 16: without the version."""
+    """A text as version 16 may also be stored: without its version."""
     return text.replace(b'$v=16', b'')
 
 

@@ -1,6 +1,6 @@
-/* It is preloaded into a program, and looks for pieces of what that computes: when the program ends, in all writable
-   memory, also in the stacks of ended threads that the C library keeps; in freed memory; and at returns of functions,
-   below the stack pointer and above it in the callers' frames. The file PLAN has the number of pieces, the places of
+/* Preloaded into a program, it looks for pieces of what that computes: at the end in all writable memory, also in the
+   stacks of ended threads that the C library keeps; in each freed block; and at returns of functions below the
+   stack pointer, and above it in the callers' frames. The file PLAN has the number of pieces, the places of
    calls to leave out and of returns, and the pieces. On standard error it prints how often each piece is found: a row
    of `found`, the piece, and a number. A Rattle program ends by
    _exit, which runs no destructor. */
@@ -24,7 +24,7 @@ enum { LEFT, FREED, IN_CALLERS, AT_STOPS };
 extern void *const __libc_stack_end;
 extern __typeof__(free) __libc_free;
 
-/* A piece. It is compared by words, since a vector register might be saved on the stack later. */
+/* A piece. Comparing by words keeps it out of vector registers, which might be saved on the stack. */
 typedef struct __attribute__((packed, may_alias)) {
     uint64_t low, high;
 } piece;
@@ -82,7 +82,7 @@ __attribute__((noreturn, naked)) void _exit(int status)
     __asm__("int3");
 }
 
-/* Looks, in the first thread, and then returns, as the instruction would that the breakpoint replaces. */
+/* In the first thread, looks. Then returns, as the instruction replaced by the breakpoint would. */
 static void stop(int signal, siginfo_t *information, void *context)
 {
     greg_t *const words = ((ucontext_t *)context)->uc_mcontext.gregs;

@@ -4,7 +4,7 @@ a memory of the caller, who runs their tasks), password_hash and password_verify
 archive. (valgrind knows no AVX-512. The build for x86-64-v4 differs only in its compression: docs/CLAIMS.md says how
 that is shown to branch on its flag alone and to compute no address.) With Argon2i, none may depend on these on the way
 to a tag, a text or a verdict on a hash, except two branches on the letters of a stored hash. With Argon2d and Argon2id,
-the addresses at which a block that other blocks select is found and read may too, but no further branch. Leaks that
+the addresses used to find and read a block that other blocks select may too, but no further branch. Leaks that
 are planted in the library (plant_leak.py) and in its driver have to be reported, or else this sees nothing. calls.c
 makes the calls, of cases.py. depends.txt has what each case may report.
 """
@@ -27,7 +27,7 @@ from running import rows as rows_of
 SECONDS = 3600
 # The builds, each with how many places find or read the block that is referred to.
 READS = dict(zip(machines()['x86_64'].proved, (10, 9), strict=True))
-FEW = 2  # vectors are enough of a case with a leak
+FEW = 2  # vectors are enough for a case with a leak
 CASES = of.hashes, of.hashed_texts, of.verdicts, of.verdicts_on_texts
 EVERY, NEWER = tuple(product(of.VARIANTS, of.VERSIONS)), tuple(product(of.VARIANTS, [19]))
 # The cases, with options, and with the variants and versions that one run is asked.
@@ -35,8 +35,8 @@ ASKED = [*product(CASES, (of.FRESH, of.CALLER), [EVERY]), *product(CASES, (of.RE
          *product(CASES, [of.THREADS], [(('argon2d', 16), ('argon2i', 16), ('argon2id', 19))]),
          *product([of.verdicts_on_others], of.OPTIONS, [(('argon2i', 0),)]), (of.verdicts_within, of.FRESH, NEWER),
          (of.passwords, of.FRESH, (('argon2id', 19),))]
-# Leaks in what is proved, each with a case and a variant in which it has to be seen; and what is put behind the
-# driver's line that gives a tag or a verdict.
+# Leaks in the proved code, and lines put behind the driver's line that computes a tag or a verdict; each with a case
+# and a variant in which it must be seen.
 LEAKS = {
     'branch_on_a_word': (of.hashes, of.FRESH, 'argon2i'),
     'branch_on_a_reference': (of.hashes, of.FRESH, 'argon2id'),
@@ -126,7 +126,7 @@ def test_each_leak_is_seen(came, row):
 
 
 def test_all_is_asked():
-    """Each build is asked of enough vectors, and each case of depends.txt with the variants that CALL names there. A
+    """Each build is tested with enough vectors, and each case of depends.txt with the variants that CALL names there. A
     case may report what WORDS says."""
     assert [*READS] == machines()['x86_64'].proved
     asked = {}

@@ -1,7 +1,7 @@
-"""Tests what instructions reveal of secrets, where memcheck does not look; addresses are not tested. The proved code of
-the library for C consists of instructions of a list, whose time does not depend on their operands, except for named
-divisions. Calls take the same instructions for each secret that is tried: on ARM64 the same ones, as qemu runs them;
-for Rattle the same number in the caller's thread, as callgrind counts. A planted branch to a division must be detected.
+"""Tests what instructions reveal of secrets, where memcheck does not look; addresses are not tested. The proved code
+for C consists of instructions of a list, chosen to take the same time for all operands, except for named
+divisions. For each secret tried, calls on ARM64 run the same instructions, as qemu shows, and Rattle's calls run
+the same number of them in the caller's thread, as callgrind counts. A planted branch to a division must be detected.
 """
 
 import hashlib
@@ -21,9 +21,9 @@ from running import TOP, ahead
 from toolchain import is_current
 
 PREFIX, QEMU = 'aarch64-linux-gnu-', 'qemu-aarch64-static'
-SECONDS, LEAST = 600, 100_000  # instructions that a call takes
-# Sums, exclusive ors, products, shifts, rotations and shuffles, moves, comparisons and jumps. For ARM64, ARM
-# guarantees this ("Data Independent Timing"), except for loads and stores, whose time depends on no data either.
+SECONDS, LEAST = 600, 100_000  # LEAST: the fewest instructions of a call
+# Sums, exclusive ors, products, shifts, rotations and shuffles, moves, comparisons and jumps. With PSTATE.DIT
+# (not set here), ARM guarantees this, except that addresses of loads and stores may matter.
 X86 = re.compile(
     r'v?p((add|sub)[bdwq]|and|xor[dq]?|or|ternlog[dq]|ro[lr][dq]'
     r'|mul(udq|ld)|maddwd|(max|min)ud|cmp(eq|gt)[bdq]|s[rl][la]v?[dwq]|shuf[bd]'
@@ -54,7 +54,7 @@ OF_BUILD = re.compile(r'^proved_(?:x86_64_v\d|armv8_a(?:_neon)?)_')
 # Secrets: for calls that hash, the password and the key; for calls that verify, the bits in which a hash is wrong.
 CALLED = {'hash': of.HASH_RAW, 'hash_text': of.HASH_ENCODED, 'verify': of.VERIFY_RAW, 'verify_text': of.VERIFY_ENCODED}
 SECRETS = [*map(bytes.fromhex, ('00' * 16, '01' + '00' * 15, '00' * 15 + '01', '01344e2158181b481f675203450d1a71'))]
-# Rattle's calls; the lengths of two tags: one hash, and a chain of hashes whose length is no multiple of a vector's.
+# Rattle's calls; two tag lengths: one hash, and a chain of hashes whose length is no multiple of a vector register's.
 PROGRAM, LENGTHS = TOP / 'crates/argon2_vectors/out/argon2_vectors', (32, 103)
 HASHES, VERDICTS = 'argon2::hashing::hash_raw_in*', 'argon2::verifying::verify_raw_in*'
 LONGER = b'a password that is longer than a block of BLAKE2b' * 3
@@ -144,7 +144,7 @@ def test_a_planted_branch_is_seen(arm64):
 
 def taken_by(function, line):
     """How many instructions the program takes in a function for a line, and what it answers. (The environment is
-    empty: pytest changes a variable meanwhile, which moves the stack, and what a copy takes depends on it.)"""
+    empty: pytest changes a variable meanwhile, which moves the stack, and a copy's instructions depend on that.)"""
     ran = subprocess.run(
         ['valgrind', '--tool=callgrind', '--callgrind-out-file=/dev/null', f'--toggle-collect={function}', PROGRAM],
         input=f'{line}\n', capture_output=True, text=True, check=True, timeout=SECONDS, env={})
@@ -152,8 +152,8 @@ def taken_by(function, line):
 
 
 def counts(variant, length):
-    """What hashing takes for each secret, and for a longer one; and verifying for the tag of the first and for hashes
-    that differ from it in the first byte, in the last one, and in all."""
+    """The instructions of hashing, for each secret and a longer one; and of verifying, for the first secret's tag and
+    hashes that differ from it in the first byte, the last one, or all."""
     words = [f'{variant} 19 2 64 2 {length} seq {secret.hex()} {b"some-salt".hex()} {secret.hex()} -'
              for secret in (*SECRETS, LONGER)]
     *hashing, longer = [taken_by(HASHES, f'hash_raw {line}') for line in words]
@@ -169,7 +169,7 @@ def came(request):
 
 
 @pytest.mark.parametrize('case', [(variant, length) for variant in of.VARIANTS for length in LENGTHS], ids=str)
-def test_as_many_instructions(came, case):
+def test_equal_instruction_counts(came, case):
     hashing, verifying, longer = came(case)
     (numbers, tags), (others, verdicts) = zip(*hashing), zip(*verifying)
     assert len({*numbers}) == 1 and len({*tags}) == len(SECRETS)

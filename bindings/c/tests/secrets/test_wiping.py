@@ -2,10 +2,10 @@
 absence is detected.
 
 A wipe is a call of `wipe` in a program: calls.c with each build of the library for C, and programs in Rattle that make
-the library's calls. With search.c preloaded a program stops at each return of its functions. The wipe is missed if more
-pieces are found than with all wipes: below the stack pointer, in the callers' frames, in freed memory or at the end.
-Calls of `wipe_stack` are left out meanwhile, and then tested likewise; tests/clearing.c tests the driver's calls that
-clear. wipes.txt lists how many calls of each function are missed, and how many are not.
+the library's calls. With search.c preloaded a program stops at each return of its functions. The wipe counts as missed
+if more pieces are found than with all wipes: below the stack pointer, in callers' frames or freed memory, or at the
+end. Calls of `wipe_stack` are left out meanwhile, and then tested likewise; tests/clearing.c tests the driver's calls
+that clear. wipes.txt lists how many calls of each function are missed, and how many are not.
 """
 
 import os
@@ -39,13 +39,13 @@ BRANCH = re.compile(r'^ +([0-9a-f]+):\t(call|jmp|ret)(?:[^<\n]*<([^+\n]*?)(?:::<
 OVERWRITING = ('argon2_blocks::blake2b::wipe', 'argon2_fill::stack_wiping::wipe_stack', 'proved_driver_overwrite',
                'clear_stack')
 COMPUTING, ENDING = r'argon2::(hashing|verifying)::(texts::)?\w+_in(_sequential)?', 'argon2::ending::release'
-# A function that must leave nothing when it returns: what it leaves for only some lanes is noticed nowhere else.
+# A function that must leave nothing when it returns: no other check notices what it leaves for only some lanes.
 CLEAN = 'argon2_fill::fill::write_first_block'
 # What calls are passed and write, which may be anywhere; and what they may leave on the stack if nothing clears it.
 OF_CALLER = ('the tag', 'the password')
 MAY_BE_LEFT = ('H0', *OF_CALLER)
-# How often a program that starts threads is run: a worker that takes no lane leaves nothing, and hides what others
-# left. How often all is repeated if any count differs: what chance put into memory is not there each time.
+# TRIES: how often a program with threads is run, since a worker that takes no lane leaves nothing, and hides what
+# others left. LOOKS: how often all is repeated if a count differs, since chance leaves pieces in memory only sometimes.
 TRIES, LOOKS = 9, 6
 # What tests/clearing.c is linked with. Where names are bound late, the loader leaves registers on the stack, and only
 # the driver clears them.
@@ -63,7 +63,7 @@ OF_A_LONG_TAG = OF_9_LANES._replace(length=5000)
 DROPPED = OF_9_LANES._replace(passes=1, length=32, password=b'password')
 # Of one lane, which starts no worker.
 IN_ONE_LANE, OF_A_CHAIN_IN_ONE_LANE = OURS._replace(lanes=1), OF_A_CHAIN._replace(lanes=1)
-# Tests of each root call that takes no memory of the caller's, and of each that takes one, which the test drops.
+# Tests of each root call: of those without a caller's memory, and of those with one, which the test drops.
 COUNT_OF_TESTS, TESTS = 25, re.compile(
     r'^(\S*\b(?:(?:hash_raw|hash_encoded|verify_raw)_(?:by(?:_two)?_workers|in_one_thread|sequential)(?:_argon2id)?'
     r'|verify_encoded(?:_ext|_within)?(?:_sequential)?|\w+_in(?:_sequential)?_twice)_denied_in_turn): test$', re.M)
@@ -96,7 +96,7 @@ def parts(vector):
         yield 'what a first block is hashed from', setting.h0[-8:] + place, (0,)
         yield 'a first block', first, (0, 480, 800)
         yield 'the last hashes of its chain', first, (896, 928, 960, 992)
-    # (that of one lane is in the matrix)
+    # (with one lane, it is in the matrix)
     yield 'the combined last blocks', combined, (0, 512, 1000) if setting.lanes > 1 else ()
     yield 'the tag', tag, range(0, len(tag) - 15, PIECE)
     yield 'the password', setting.password, range(0, len(setting.password) - PIECE, PIECE)
@@ -239,8 +239,8 @@ def row(call, vector, mode, *more):
 
 
 def rows():
-    """Runs of that program in one thread and by workers, with tags of one hash and of a chain. Some hash. Others verify
-    and leave no tag; two of these have one lane, which starts no worker. One run drops a memory."""
+    """Runs of that program in one thread and by workers, with tags of one hash and of a chain. Some runs hash; others
+    verify and leave no tag; two of these have one lane, which starts no worker. One drops a memory."""
     every, in_one_lane = (OURS, OF_A_CHAIN, OF_A_LONG_TAG), (IN_ONE_LANE, OF_A_CHAIN_IN_ONE_LANE)
     for modes in (('seq',), ('par', 'max2')):
         hashing = [row(call, *how) for how in product(every, modes) for call in ('hash_raw', 'hash_encoded')]
@@ -337,7 +337,7 @@ def test_what_is_left(program):
 
 
 def test_each_wipe_alone(program):
-    """In one of LOOKS looks, as many calls of each function are missed, and not missed, as wipes.txt says."""
+    """For each function, in one of LOOKS looks, as many calls are missed, and not missed, as wipes.txt says."""
     expected = wrong = EXPECTED[program.name]
     for _ in range(LOOKS):
         found = Counter((site.callee, site.function, is_missed) for site, is_missed in program.misses())
