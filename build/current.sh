@@ -157,8 +157,8 @@ is_of_sources() {
     grep -qxF "# sources $1 $sum" "$root/release/MANIFEST" 2>/dev/null
 }
 
-# Whether a file of release/, or a folder's content, is as the manifest names it: `is_listed PART`. Lines that the list
-# shares with the files' sums appear twice.
+# Whether a file of release/, or a folder's content, is as the manifest names it: `is_listed PART`. `uniq -u` drops what
+# the list and the files' sums share.
 is_listed() {
     why="release/MANIFEST names no file of $1"
     listed=$(grep -E "^[^#].*  $1(/|\$)" "$root/release/MANIFEST") || return

@@ -40,7 +40,7 @@ static inline void *place(u64 address, u64 offset)
     return (void *)(uintptr_t)(address + offset);
 }
 
-/* (a compiler knows which) */
+/* (compilers evaluate this) */
 static inline int is_big_endian(void)
 {
     const u16 one = 1;
@@ -69,7 +69,7 @@ static inline u64 swapped_u64(u64 word)
     return (u64)swapped_u32((u32)word) << 32 | swapped_u32((u32)(word >> 32));
 }
 
-/* An instruction that loads: what it gives, what is in memory, and what this is read as. */
+/* A load instruction: the types of its result, of what is in memory, and of reading that. */
 #define LOAD(name, type, stored, read) \
     static inline type Z_memoryZ_##name(const void *none, u64 address, u64 offset) \
     { \

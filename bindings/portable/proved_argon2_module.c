@@ -1,4 +1,4 @@
-/* The proved calls, in each processor's C, for proved_argon2_table.c: each runs the module that is translated in
+/* The proved calls, as portable C, for proved_argon2_table.c: each runs the module that is translated in
  * module_code.h, with a stack of its own, over the caller's memory. It is tested and not proved. */
 #include "driver.h"
 
@@ -13,7 +13,7 @@
 #define ROUNDED_DOWN(address, to) ((address) - (address) % (to))
 
 /* What a call's module has: its stack, its data, and the structures that it is passed, laid out as WebAssembly's; and
- * where what it writes of them goes. */
+ * the caller's structures for its results. */
 struct instance {
     Z_proved_instance_t module;
     u8 stack[MODULE_STACK + 16];

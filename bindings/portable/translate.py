@@ -5,8 +5,8 @@
 wasm2c knows no memory with addresses of 64 bits, and gives a module a memory of its own, into which all would have to
 be copied. So each instruction that loads or stores becomes a call of a function of its name (module.h), and the module
 has no memory any more: wasm2c translates the rest as it is. Constants that are addresses of the module's own data are
-made relative to where these are. To know them, MODULE and OTHER are the same code linked with its data at two
-addresses: the C of both has to be the same.
+made relative to where these are. To find them, MODULE and OTHER are the same code linked with its data at two
+addresses; both must become the same C.
 """
 import re
 import subprocess
@@ -15,7 +15,7 @@ import tempfile
 from dataclasses import dataclass, field
 
 RED_ZONE = 128  # bytes that a function without calls may use below the stack pointer
-# What calls itself, and how often at most: with half of a length, or without the last of ten digits.
+# Functions that call themselves, and how often at most: each call halves a length or drops one of ten digits.
 RECURSIVE = {"$argon2_blocks::blake2b::wipe": 64, "$argon2_text::encoding::placing::put_number": 10,
              "$argon2_text::encoding::lengths::num_len": 10}
 ACCESS = re.compile(r"(\s*)((i32|i64)\.(load|store)\w*)(?: offset=(\d+))?(?: align=\d+)?(\)*)")
@@ -70,14 +70,14 @@ def read_module(file):
 # ---- each instruction
 
 def constant(module, indent, number, close=""):
-    """A number, or the address of a datum as what it is from where the data are."""
+    """A number, or the address of a datum as its offset from the start of the data."""
     if not module.has(number):
         return [f"{indent}i64.const {number}{close}"]
     return [f"{indent}{line}" for line in ("global.get $data", f"i64.const {number - module.base}", f"i64.add{close}")]
 
 
 def translated(module, line, used):
-    """The lines in place of one; what is used of memory is added to a table of names and types."""
+    """The lines that replace one line. Calls that it needs for memory are added to `used` with their types."""
     if OF_MEMORY.match(line):
         return []
     if "(global $__stack_pointer " in line:
@@ -108,7 +108,7 @@ def without_memory(module):
 
 
 def deepest_stack(module):
-    """The most bytes of its stack that a call takes, with all that it calls: no function calls itself."""
+    """The most bytes of stack that a call and its callees take. Only functions in RECURSIVE call themselves."""
     functions = dict(re.findall(r"^  \(func (\S+)(.*?)(?=^  \()", "\n".join(module.lines), re.M | re.S))
     depths = {}
 
@@ -129,7 +129,7 @@ def deepest_stack(module):
 # ---- the C
 
 def made_c(module):
-    """What wasm2c makes of a module, without what is there for others."""
+    """What wasm2c makes of a module: only its structure and its functions."""
     with tempfile.TemporaryDirectory() as folder:
         with open(f"{folder}/m.wat", "w", encoding="utf-8") as file:
             file.write(without_memory(module))
@@ -142,7 +142,7 @@ def made_c(module):
 
 
 def data_of(module):
-    """The data, where each address among them is what it is from where they are; and where these addresses are."""
+    """The data, in which each address is an offset from their start; and where these addresses are."""
     data, addresses = bytearray(module.data), []
     for at in range(0, len(data) - 7, 8):
         address = int.from_bytes(data[at:at + 8], "little")

@@ -1,4 +1,4 @@
-# What each export calls first and last, as rattle-link adds it to a module with a memory of its own. Instances that share
+# What each export calls first and last. rattle-link adds the same to a module with its own memory. Instances that share
 # a memory have a flag each, which lies in no memory: after a trap, which may have left half of a write, an instance
 # traps at every call.
 	.globaltype	is_in_call, i32

@@ -1,6 +1,6 @@
 #if !defined(__linux__)&&!defined(_WIN32)
-/* The driver's system, where it is neither Linux nor Windows: what C itself has, and so no threads of a call's own. It
- * is tested and not proved. */
+/* The driver's platform for other systems than Linux and Windows. It uses C and the system's random bytes; calls start
+ * no threads. It is tested and not proved. */
 #include "platform.h"
 
 #include <errno.h>

@@ -100,7 +100,7 @@ typedef struct member {
 } member;
 
 struct team {
-    pid_t *process;   /* the ID of the process that started them; zero in a forked child, which may have the same ID */
+    pid_t *process;   /* the ID of the starting process; zero in a forked child, since that may have the same ID */
     uint32_t threads; /* beside the caller's */
     void (*run)(void *arg, team *own, uint32_t number);
     void *arg;

@@ -8,7 +8,7 @@
 
 typedef ANYWHERE uint32_t four;
 typedef ANYWHERE uint64_t eight;
-typedef uint64_t __attribute__((vector_size(16), may_alias, aligned(1))) sixteen; /* for registers of all builds */
+typedef uint64_t __attribute__((vector_size(16), may_alias, aligned(1))) sixteen; /* fits registers of every build */
 
 /* Keeps the compiler from replacing a loop by a call of memcpy or by wider registers. */
 #define AS_WRITTEN() __asm__ volatile("" ::: "memory")

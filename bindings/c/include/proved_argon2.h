@@ -30,10 +30,10 @@
  * compiled by GCC 11, clang 15 or newer, the vector registers.
  *
  * Threads. Calls are thread-safe, as long as nothing writes to what a call is passed: an encoded hash that changes
- * while it is read may end the process. The only state of the library is which build it runs. A call can be cancelled
- * only if its thread's cancellation is asynchronous: a proved call of proved_argon2_jobs.h anywhere, and another call
- * just before it returns. Calls are not async-signal-safe, so make none from a signal handler. In the forked
- * child of a process with threads, calls are safe if malloc is, as with the GNU C library.
+ * while it is read may end the process. The only state of the library is which build it runs. Deferred cancellation
+ * never ends a call. Asynchronous cancellation can end a proved call at any point, another call just before it returns
+ * and, if that makes a salt, also once it has the salt. Calls are not async-signal-safe, so make none from a signal
+ * handler. In the forked child of a process with threads, calls are safe if malloc is, as with the GNU C library.
  *
  * Symbols. Each symbol of the library begins with proved_, so that a program can link libargon2 too.
  */
@@ -57,7 +57,7 @@ extern "C" {
 #define PROVED_ARGON2_LIBRARY_VERSION "1.0.0"
 #define PROVED_ARGON2_LIBRARY_VERSION_NUMBER UINT32_C(1000000)
 
-/* The stack to provide for a call, in bytes: more than three times what was measured. */
+/* The bytes of stack to provide for a call. A call of a native build uses less than half of them (tested). */
 #define PROVED_ARGON2_STACK_SIZE 65536
 
 /* Limits (RFC 9106, 3.1; libargon2's MIN_SALT_LENGTH). Lengths in bytes, memory in KiB. */
@@ -73,7 +73,7 @@ extern "C" {
 #define PROVED_ARGON2_MIN_HASH_LENGTH UINT32_C(4)
 #define PROVED_ARGON2_MAX_HASH_LENGTH UINT32_C(0xFFFFFFFF)
 
-/* The variants (RFC 9106, 1). They differ in what selects the earlier block that a new block is computed from. */
+/* The variants (RFC 9106, 1). A new block is computed from an earlier one, which they select by: */
 enum proved_argon2_variant {
     PROVED_ARGON2_D = 0, /* the blocks, and so the password */
     PROVED_ARGON2_I = 1, /* only the block's position */
@@ -121,7 +121,7 @@ enum proved_argon2_code {
     PROVED_ARGON2_NO_PLACE = 71,          /* the job has no such pass, slice or lane */
     PROVED_ARGON2_WRONG_BLOCKS = 72,      /* there are more or fewer blocks than the settings require */
     /* end */
-    /* Only C code returns these; no proved call does: */
+    /* Only C code returns these, never proved code: */
     /* errors of the driver, by .ci/pages/presets */
     PROVED_ARGON2_NULL_POINTER = 128,    /* a pointer is null, and its length is not 0 */
     PROVED_ARGON2_NO_RANDOM_BYTES = 129, /* the system had no random bytes for a salt */
@@ -131,7 +131,7 @@ enum proved_argon2_code {
     /* end */
 };
 
-/* The settings of a hash. A field that an initializer leaves out is 0, and no hash has version 0. */
+/* The settings of a hash. A field that an initializer leaves out is 0, and version 0 is rejected. */
 typedef struct proved_argon2_settings {
     uint32_t variant;     /* an enum proved_argon2_variant */
     uint32_t version;     /* an enum proved_argon2_version */
@@ -230,7 +230,7 @@ uint32_t proved_argon2_verify_raw(
  * PROVED_ARGON2_OK only if the password matches, and PROVED_ARGON2_MISMATCH only if it does not.
  *
  * text_len is the length of the string without its terminating zero. For a string with a byte above 127 the call
- * returns PROVED_ARGON2_NOT_ASCII, and for any other that is not an encoded hash PROVED_ARGON2_DECODING_FAIL. Then it
+ * returns PROVED_ARGON2_NOT_ASCII, and PROVED_ARGON2_DECODING_FAIL for any other that is not an encoded hash. Then it
  * checks the settings, before it allocates memory. It uses the memory and the passes that the encoded hash names, up to
  * 4 TiB and 2^32 - 1: for a hash that others may have written, use proved_argon2_verify_encoded_within.
  */
@@ -274,7 +274,7 @@ uint32_t proved_argon2_read_within(
 
 /*
  * Writes the salt and the hash of an encoded hash to buffers of the lengths that proved_argon2_read reports. For any
- * other length it returns PROVED_ARGON2_WRONG_LENGTH, and for a string that is not an encoded hash the errors above.
+ * other length it returns PROVED_ARGON2_WRONG_LENGTH, and the errors above for a string that is not an encoded hash.
  */
 PROVED_ARGON2_CHECKED
 uint32_t proved_argon2_read_bytes(
@@ -283,7 +283,7 @@ uint32_t proved_argon2_read_bytes(
 /*
  * Whether an encoded hash was made with these settings: PROVED_ARGON2_OK only if its variant, version, memory cost,
  * passes, lanes and length of the hash are the given ones, and PROVED_ARGON2_NEEDS_REHASH only if one differs. The
- * numbers of variant and version are checked first, and then the string, as above. Other fields may be invalid. Call
+ * settings' variant and version are checked first, then the string, as above. The other settings may be invalid. Call
  * it after the password has matched.
  */
 PROVED_ARGON2_CHECKED
@@ -300,8 +300,8 @@ uint32_t proved_argon2_check(
     const proved_argon2_settings *settings, uint64_t pwd_len, uint64_t salt_len, uint64_t secret_len, uint64_t ad_len);
 
 /*
- * The same for a call that verifies an encoded hash within limits, with inputs of these lengths. It first returns the
- * errors of proved_argon2_read_within, and writes to stored what that call writes.
+ * The same for a call that verifies an encoded hash within limits, with inputs of these lengths. It decodes into
+ * stored as proved_argon2_read_within does, and that call's errors come first.
  */
 PROVED_ARGON2_CHECKED
 uint32_t proved_argon2_check_encoded(

@@ -114,7 +114,7 @@ uint32_t proved_argon2_job_finish(
     const proved_argon2_job *job, const proved_argon2_block *last, size_t last_len, uint8_t *out, size_t out_len);
 
 /*
- * Whether hash is the tag, as proved_argon2_verify_raw returns it. The call also writes the tag to tag, which the
+ * Returns whether hash is the tag, like proved_argon2_verify_raw. The call also writes the tag to tag, which the
  * caller has to clear. hash_len and tag_len must be job->hash_length.
  */
 PROVED_ARGON2_CHECKED
@@ -122,12 +122,12 @@ uint32_t proved_argon2_job_verify(
     const proved_argon2_job *job, const proved_argon2_block *last, size_t last_len,
     const uint8_t *hash, size_t hash_len, uint8_t *tag, size_t tag_len);
 
-/* Writes the tag of a job, computed in all its blocks. out_len is job->hash_length. */
+/* Fills blocks (the job's whole memory), and writes the tag. out_len is job->hash_length. */
 PROVED_ARGON2_CHECKED
 uint32_t proved_argon2_job_hash_over(
     const proved_argon2_job *job, proved_argon2_block *blocks, size_t blocks_len, uint8_t *out, size_t out_len);
 
-/* Whether hash is the tag of a job, computed in all its blocks, as proved_argon2_job_verify returns it. */
+/* The same, but returns whether hash is the tag, and writes the tag, as proved_argon2_job_verify does. */
 PROVED_ARGON2_CHECKED
 uint32_t proved_argon2_job_verify_over(
     const proved_argon2_job *job, proved_argon2_block *blocks, size_t blocks_len,

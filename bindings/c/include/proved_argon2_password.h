@@ -23,7 +23,7 @@ extern "C" {
 /*
  * Writes the encoded hash to store for a password of length bytes, and then zeros, up to
  * PROVED_ARGON2_TEXT_SIZE bytes. The settings are those of proved_argon2_owasp2, and the salt is 16 random bytes from
- * the system. The password may contain zero bytes. After an error text is unchanged.
+ * the system. The password may contain zero bytes. After an error, text is unchanged.
  */
 PROVED_ARGON2_CHECKED
 uint32_t proved_argon2_password_hash(char text[PROVED_ARGON2_TEXT_SIZE], const void *password, size_t length);

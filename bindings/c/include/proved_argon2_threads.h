@@ -7,8 +7,8 @@
  * denies a thread, the other threads do its work.
  *
  * Before a call returns, whatever it returns, it clears what depends on secrets. The blocks are overwritten, or
- * returned to the system, which clears them. H0, a tag that was computed for a comparison, and the stack that the calls
- * used are overwritten. On Linux, core dumps leave out the blocks while a call runs, if the call allocated them itself
+ * returned to the system, which clears them. H0, the stack that the calls used, and any tag computed for a comparison
+ * are overwritten. On Linux, core dumps leave out the blocks while a call runs, if the call allocated them itself
  * and they are 2 MiB or more.
  */
 #ifndef PROVED_ARGON2_THREADS_H

@@ -1,4 +1,4 @@
--- What a stored hash means, and what it takes.
+-- Stored hashes: verdicts, early errors, rehashing, and memory left.
 use Rattle.std.proofs.Common.{◌≡◌, ℕ, Bool, true, false, List, [], length, Bor, Option, None, Some, Result, Ok, Err, nat_lt, ◌==◌, not, if◌then◌else◌}
 use Rattle.std.proofs.Common.{refl, sym, ap, subst, ◌∙◌, arith, inl, inr}
 use Rattle.std.specs.Prelude.{◌↔◌, IsNone, IsTrue, IfOk, IfErr, IsSome, OnErr, OnOk}
@@ -41,7 +41,7 @@ pub table_error-same : (x y : Config) (pwd salt hash : ℕ) → x.lanes ≡ y.la
 unfolding table_error
 table_error-same x y pwd salt hash lanes mem_cost time_cost secret ad = rw (lanes, mem_cost, time_cost, secret, ad) refl
 
--- and the tag at the variant and the version too
+-- the tag depends on the variant and the version too
 tag_of-same : (x y : Config) (pwd salt : List ℕ) (len : ℕ) → x.variant ≡ y.variant → x.version ≡ y.version → x.lanes ≡ y.lanes → x.mem_cost ≡ y.mem_cost
     → x.time_cost ≡ y.time_cost → x.secret.now ≡ y.secret.now → x.ad.now ≡ y.ad.now → tag_of pwd salt x len ≡ tag_of pwd salt y len
 unfolding tag_of setting_of prehash_of
@@ -63,7 +63,7 @@ verdict-same d pwd secret ad x y workers answer a b verdict =
     (a.mem_cost ∙ sym b.mem_cost) (a.time_cost ∙ sym b.time_cost) (a.secret ∙ sym b.secret) (a.ad ∙ sym b.ad) in
     rw (refusal, tag) at verdict
 
--- and so without a secret and associated data, whatever references say that there are none
+-- and also if the secret and associated data are empty, whatever their references are
 pub verdict_without : (d : Spelled) (pwd : List ℕ) (x y none : Bor (List ℕ)) (workers : Bool) (answer : Result Bool Error) → x.now ≡ [] → y.now ≡ []
     → none.now ≡ [] → IsVerdict pwd d.salt d.hash (decoded_config d x y) workers answer
     → IsVerdict pwd d.salt d.hash (decoded_config d none none) workers answer
@@ -98,7 +98,7 @@ pub stored_workers : (stored : Decoded) (secret ad : List ℕ) (used : Config) �
 stored_workers stored secret ad used used_is =
     ap (λ n. not (fills_alone used.thread_mode n)) used_is.stored.lanes ∙ workers_flag used.thread_mode stored.parallelism used_is.thread_mode
 
--- the verdict of the configuration that a value is verified with is that of the value, whatever the workers
+-- whatever the workers, the configuration used for a value gives the value's own verdict
 pub stored_verdict : (v d : Spelled) (pwd secret ad : List ℕ) (used config : Config) (workers : Spelled → Bool) (answer : Result Bool Error) → v ≡ d
     → IsConfigOf v secret ad used → IsStoredConfig d secret ad config → IsVerdict pwd v.salt v.hash used (workers v) answer
     → IsVerdict pwd d.salt d.hash config (workers d) answer
@@ -126,7 +126,7 @@ pub error_found : (refusal : Option Error) (x config : Config) (pwd n m : ℕ) (
 error_found refusal x config pwd n m salt hash found salt_len hash_len lanes mem_cost time_cost secret ad =
     rw (salt_len, hash_len) at found ∙ table_error-same x config pwd (length salt) (length hash) lanes mem_cost time_cost secret ad
 
--- it is that of any value of the string
+-- the head's error is any value's error
 error_told : (text : List ℕ) (h : Head) (pwd_len : ℕ) (secret ad : List ℕ) (refusal : Option Error) (d : Spelled) (config : Config)
     → RefusesHead h pwd_len secret ad refusal
     → IsSpellingOf text h → Spells text d → IsStoredConfig d secret ad config → refusal ≡ table_error config pwd_len (length d.salt) (length d.hash)
@@ -194,7 +194,7 @@ unfolding table_error
 stored_accepted d pwd_len secret ad used accepted is =
     rw (own_length d pwd_len secret ad used accepted is) (rw (accepted used is.stored) refl)
 
--- a head that decodes to a value leaves no string that decodes to nothing
+-- a string whose head is decoded does not decode to nothing
 pub spells_some : (text : List ℕ) (h : Head) → IsSpellingOf text h → SpellsNothing text → ⊥
 spells_some text h (salt, hash, is) none = none (spelled_with h salt hash) is.spells
 
@@ -232,7 +232,7 @@ none_is_not_some : {A B : Type 0} (o : Option A) → o ≡ None → IsSome o →
 none_is_not_some None none some = absurd (let e : false ≡ true = some in cc)
 none_is_not_some (Some x) none some = absurd (cc)
 
--- a call with accepted settings leaves what its tag does
+-- a call with accepted settings leaves what `tag` leaves
 pub leaves_accepted : {A : Type 0} (pwd salt : List ℕ) (config : Config) (len : ℕ) (workers : Bool) (before after : MemoryValue) (answer : Result A Error)
     → table_error config (length pwd) (length salt) len ≡ None → OnOk answer (HoldsFill (setting_of pwd salt config len) after)
     → OnErr answer (IsLeft workers (setting_of pwd salt config len) before after) → LeavesMemory pwd salt config len workers before after answer
@@ -267,7 +267,7 @@ unfolding setting_of prehash_of
 setting_of-same x y pwd salt len variant version lanes mem_cost time_cost secret ad =
     rw (variant, version, lanes, mem_cost, time_cost, secret, ad) refl
 
--- what the configuration leaves that a decoded value is verified with is what the value's would, with the workers that it asks for
+-- the configuration used for a decoded value leaves what the value's own would, with its workers
 pub stored_leaves : (v d : Spelled) (pwd secret ad : List ℕ) (used config : Config) (workers : Spelled → Bool) (before after : MemoryValue)
     (answer : Result Bool Error) → v ≡ d
     → IsConfigOf v secret ad used → IsStoredConfig d secret ad config → IsAccepted v (length pwd) secret ad

@@ -102,7 +102,7 @@ marks_none : (text : List ℕ) → Lacks 36 text → marks text ≡ 0
 marks_none [] lacks = refl
 marks_none (b ∷ text) lacks = rw (sum_by-cons (λ x. cond (x == 36) 1 0) b text, ne_eqb b 36 lacks.0, zero-add) (marks_none text lacks.1)
 
--- four `$` and those of a version part whose number lacks them are four or five
+-- four `$` plus a version part's are four or five, if its number has none
 version_marks : (version : Option (List ℕ)) → IfSome version (Lacks 36) → (4 + marks (version_part version) ≡ 4) ⊎ (4 + marks (version_part version) ≡ 5)
 version_marks None lacks = inl refl
 version_marks (Some number) lacks =
@@ -167,7 +167,7 @@ written_pieces d = record {
   hash = base64 d.hash;
 }
 
--- the six parts with the written marks between them are the string of these pieces
+-- the seven parts with the written marks between them are the string of these pieces
 layout-joined : (name version memory time lanes salt hash : List ℕ)
     → codes "$" ++ name ++ codes "$v=" ++ version ++ codes "$m=" ++ memory ++ codes ",t=" ++ time ++ codes ",p=" ++ lanes ++ codes "$" ++ salt ++
     codes "$" ++ hash
@@ -203,7 +203,7 @@ spells_own_value d fits = record {
 costs-joined : (m t p rest : List ℕ) → join_with_byte 44 (m ∷ t ∷ p ∷ []) ++ rest ≡ m ++ 44 ∷ (t ++ 44 ∷ (p ++ rest))
 costs-joined m t p rest = rw (append_assoc m (44 ∷ (t ++ 44 ∷ p)) rest, append_assoc t (44 ∷ p) rest) refl
 
--- the six parts with the written marks between them are the items joined by `$`
+-- the seven parts with the written marks between them are the items joined by `$`
 items-joined : (name version memory time lanes salt hash : List ℕ)
     → codes "$" ++ name ++ codes "$v=" ++ version ++ codes "$m=" ++ memory ++ codes ",t=" ++ time ++ codes ",p=" ++ lanes ++ codes "$" ++ salt ++
     codes "$" ++ hash

@@ -36,7 +36,7 @@ equal_by_xor : (x y : ℕ) → bit_xor x y ≡ 0 → x ≡ y
 equal_by_xor x y e =
     sym (xor_zero_r x) ∙ ap (λ n. bit_xor x n) (sym (xor_self y)) ∙ sym (xor_assoc x y y) ∙ ap (λ n. bit_xor n y) e ∙ xor_zero_l y
 
--- where the differences of two equally long lists gather to 0 from d, d is 0 and the lists equal
+-- if d or-ed with all differences of two equally long lists is 0, d is 0 and the lists equal
 no_difference : (d : ℕ) (xs ys : List ℕ) → length xs ≡ length ys →
     fold (λ difference (a, b). bit_or difference (bit_xor a b)) d (zip xs ys) ≡ 0 → (d ≡ 0) × (xs ≡ ys)
 no_difference d [] [] h e = (e, refl)
@@ -101,7 +101,7 @@ accepted_verdict tag expected None workers (Ok same) none e h = h.1 e
 accepted_verdict tag expected None workers (Err error) none e h = h
 accepted_verdict tag expected (Some r) workers answer none e h = absurd (cc)
 
--- a tag is as long as asked for and, of accepted settings, verifies or meets a resource error
+-- a tag is as long as asked for; with accepted settings, it verifies or meets a resource error
 pub own_tag_verifies : OwnTagVerifies
 own_tag_verifies pwd salt config len =
     let tag = tag_of pwd salt config len in

@@ -25,8 +25,8 @@ pub fn any_order()
 /// The theorems about tags, verdicts and encoded hashes. The tag does not depend on the thread mode. A
 /// verdict depends on the hash's own length, not on `hash_length`. A string decodes to at most one
 /// value, and an encoded value decodes to itself. If the settings are accepted, a tag and an encoded
-/// hash verify with the same inputs, unless memory or a worker is denied. The layout of an encoded
-/// hash is also stated by its `$` and by two examples.
+/// hash verify with the same inputs, unless memory or a worker is denied. An encoded hash's layout
+/// is stated again, as items between `$` and by two examples.
 pub fn laws()
     ensures mode { TagForgetsMode }
     ensures length { LengthIsTheHash }

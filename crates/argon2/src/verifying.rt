@@ -40,8 +40,8 @@ fn difference(one: &[u8], other: &[u8]) -> u8
     difference
 }
 
-/// Whether two hashes of one length are equal. It goes on to the last byte, where `==` may stop at
-/// the first difference.
+/// Whether two hashes of one length are equal. It goes on to the last byte, whereas `==` may stop
+/// at the first difference.
 pub fn are_equal(one: &[u8], other: &[u8]) -> bool
     requires { length one.now ≡ length other.now }
     ensures { IsTrue result ↔ (one.now ≡ other.now) }
@@ -49,8 +49,8 @@ pub fn are_equal(one: &[u8], other: &[u8]) -> bool
     difference(one, other) == 0
 }
 
-/// Whether a tag is this hash. It takes the tag and overwrites it, since only the right password
-/// produces it.
+/// Whether a tag is this hash. It takes the tag and overwrites it, since a password can be checked
+/// with it.
 fn is_hash(mut tag: Vec<u8>, hash: &[u8]) -> bool
     requires { length tag.items ≡ length hash.now }
     ensures { IsTrue result ↔ (tag.items ≡ hash.now) }
@@ -60,7 +60,7 @@ fn is_hash(mut tag: Vec<u8>, hash: &[u8]) -> bool
     verdict
 }
 
-/// The context of a hash of this hash's own length, whatever `config.hash_length` is. The length is
+/// The context for hashes of this hash's length, whatever `config.hash_length` is. The length is
 /// checked in 64 bits: cut to 32 bits, that of a longer hash could pass.
 #[tactic(auto, unfolding(argon2_standard::specs::Standard::SettingsTable::table_error))]
 pub fn context_of_hash<'a>(
@@ -132,7 +132,7 @@ fn is_tag_sequential(
     Ok(is_hash(tag, hash))
 }
 
-/// Whether a hash is the tag of its own length.
+/// Whether a hash is the password's tag of equal length.
 ///
 /// The settings are checked with the length of the hash; `config.hash_length` is ignored. Invalid
 /// settings return the first parameter error, in the order of the settings table, before any memory

@@ -102,7 +102,7 @@ by_shifts bits (suc n) (x ∷ xs) some lt l =
 
 -- ---- a turn as a sum
 
--- x rotated by r bits of 64, which are m fewer: the lower bits go up, and the others come down
+-- x rotated by r bits, where r + m is 64: the lower bits go up, and the others come down
 turn : (r m x low : ℕ) → x * 2 ^ m % 2 ^ 64 ≡ low * 2 ^ m → x / 2 ^ r < 2 ^ m →
     bit_or (x / 2 ^ r) (x * 2 ^ m % 2 ^ 64) ≡ low * 2 ^ m + x / 2 ^ r
 turn r m x low up fits = ap (λ v. bit_or (x / 2 ^ r) v) up ∙ or_shifted_r low m (x / 2 ^ r) fits
@@ -126,7 +126,7 @@ turns16 x h =
     ap (λ v. rotate_right w64 v 48) (turn32 x h)
     ∙ (turn 48 16 y (y % 2 ^ 48) (omega arith) (omega arith) ∙ (e ∙ sym (turn 16 48 x (x % 2 ^ 16) (omega arith) (omega arith))))
 
--- where a turn by 32 bits and a next one are one turn of a word, they are so lane by lane
+-- if a turn by 32 bits and another equal one turn of a word, they do in each lane
 pub by_two : (next all : ℕ) → ((x : ℕ) → x < 2 ^ 64 → rotate_right w64 (rotate_right w64 x 32) next ≡ rotate_right w64 x all) →
     (xs ys zs : List ℕ) → Each1 (λ a. a < 2 ^ 64) xs → ys ≡ map (λ x. rotate_right w64 x 32) xs →
     zs ≡ map (λ x. rotate_right w64 x next) ys → zs ≡ map (λ x. rotate_right w64 x all) xs
@@ -143,7 +143,7 @@ number_of_bytes (suc n) x h =
     let r : number_l 256 (digits_l 256 n (x / 256)) ≡ x / 256 = number_of_bytes n (x / 256) (omega arith) in
     rw r (omega arith)
 
--- the halves of a word, and they in the other order
+-- the halves of a word, and the same swapped
 abbrev halves : ℕ → List ℕ
 halves x = x % 2 ^ 32 ∷ x / 2 ^ 32 ∷ []
 
@@ -154,7 +154,7 @@ abbrev twos : ℕ → ℕ
 twos zero = zero
 twos (suc n) = suc (suc (twos n))
 
--- a number that each word of 64 bits makes 2 ^ 64 times as large fits the bits of the words
+-- a number that grows by a factor of 2 ^ 64 per 64-bit word fits the bits of the words
 fits_words : (f : List ℕ → ℕ) → f [] ≡ 0 → ((x : ℕ) (xs : List ℕ) → x < 2 ^ 64 → f (x ∷ xs) < 2 ^ 64 + 2 ^ 64 * f xs) →
     (xs : List ℕ) → Each1 (λ a. a < 2 ^ 64) xs → f xs < (2 ^ 64) ^ length xs
 fits_words f none more [] h = rw none (omega arith)
@@ -188,7 +188,7 @@ turned_n (x ∷ xs) h =
 abbrev swapped_places : List ℕ
 swapped_places = 1 ∷ 0 ∷ 3 ∷ 2 ∷ 5 ∷ 4 ∷ 7 ∷ 6 ∷ 9 ∷ 8 ∷ 11 ∷ 10 ∷ 13 ∷ 12 ∷ 15 ∷ 14 ∷ []
 
--- the halves of eight words, which change places in each, make them rotated right by 32 bits
+-- swapping the halves of each of eight words rotates the words right by 32 bits
 pub by32 : (xs : List ℕ) → length xs ≡ 8 → Each1 (λ a. a < 2 ^ 64) xs →
     digits_l (2 ^ 64) 8 (number_l 256 (digits_l 256 64 (number_l (2 ^ 32) (pick_l 0 (digits_l (2 ^ 32) 16 (number_l 256 (digits_l 256 64 (number_l (2 ^ 64) xs)))) swapped_places))))
     ≡ map (λ x. rotate_right w64 x 32) xs
@@ -271,12 +271,12 @@ firsts v = pick_l [] v (0 ∷ 1 ∷ 4 ∷ 5 ∷ 8 ∷ 9 ∷ 12 ∷ 13 ∷ [])
 abbrev pub seconds : List (List ℕ) → List (List ℕ)
 seconds v = pick_l [] v (2 ∷ 3 ∷ 6 ∷ 7 ∷ 10 ∷ 11 ∷ 14 ∷ 15 ∷ [])
 
--- two and two of eight and of eight others, by turns
+-- pairs from two lists of eight, by turns
 abbrev pub by_twos : {A : Type 0} → A → List A → List A → List A
 by_twos d p q = pick_l d (pick_l d p (range_with_len 0 8) ++ pick_l d q (range_with_len 0 8))
     (0 ∷ 1 ∷ 8 ∷ 9 ∷ 2 ∷ 3 ∷ 10 ∷ 11 ∷ 4 ∷ 5 ∷ 12 ∷ 13 ∷ 6 ∷ 7 ∷ 14 ∷ 15 ∷ [])
 
--- lane i of vectors of p and q, two and two by turns, is their lanes i, two and two by turns
+-- lane i of the pairs of p and q by turns is the pairs of their lanes i by turns
 lane_by_twos : (i : ℕ) (p q : List (List ℕ)) → length p ≡ 8 → length q ≡ 8 → lane i (by_twos [] p q) ≡ by_twos 0 (lane i p) (lane i q)
 lane_by_twos i p q lp lq =
     by_elements [] 8 (λ p. lane i (by_twos [] p q) ≡ by_twos 0 (lane i p) (lane i q)) p lp

@@ -167,7 +167,7 @@ permute_halves : (w : List ℕ) → length w ≡ 16 → permute_p w ≡ undo_dia
 unfolding permute_p
 permute_halves w l = by_elements 0 16 (λ w. permute_p w ≡ undo_diagonals (half_round (diagonals (half_round w)))) w l refl
 
--- of words w half a round a, its diagonals b, half a round of those c and the diagonals back d
+-- a is half a round of w, b its diagonals, c half a round of b, d puts them back
 round_of_words : (w a b c d : List ℕ) → length w ≡ 16 →
     a ≡ half_round w → b ≡ diagonals a → c ≡ half_round b → d ≡ undo_diagonals c → d ≡ permute_p w
 round_of_words w a b c d l ea eb ec ed = rw (ed, ec, eb, ea) (sym (permute_halves w l))

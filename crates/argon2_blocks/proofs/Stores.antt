@@ -59,7 +59,7 @@ length_xor (x ∷ xs) (y ∷ ys) e = ap suc (length_xor xs ys (omega arith))
 abbrev pub Long : List ℕ → Type 0
 Long a = length a ≡ 8
 
--- behind n + m words of two joined lists, the first of n, is the second without its first m words
+-- dropping n + m words of two joined lists, the first of n, leaves the second without its first m
 pub drop_front : (xs ys : List ℕ) (n m k : ℕ) → length xs ≡ n → k ≡ n + m → drop k (xs ++ ys) ≡ drop m ys
 drop_front xs ys n m k e f = ap (λ k. drop k (xs ++ ys)) (f ∙ ap (λ n. n + m) (sym e)) ∙ drop-append-add xs ys m
 
@@ -307,8 +307,8 @@ joined_pairs v l = by_elements [] 16 (λ v. vector_words v ≡ flat_map (vector_
 
 -- ---- the whole
 
--- From the vectors r over the permuted rows p and the permuted columns d to the vectors o, wherever
--- rows and columns stand: each is named by its number.
+-- The vectors r give the permuted rows p, these the permuted columns d, and these the vectors o.
+-- Rows and columns are named by number, wherever they stand.
 pub whole : (r o : List (List ℕ)) (p d : ℕ → List ℕ) → length r ≡ 16 → Each1 Long r → length o ≡ 16 →
     ((j : ℕ) → j < 8 → p j ≡ permute_p (vector_pair r j)) →
     ((k : ℕ) → k < 8 → d k ≡ permute_p (column p k)) →

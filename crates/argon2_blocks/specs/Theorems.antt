@@ -1,2 +1,2 @@
--- Statements about the definitions. The contracts of calls without arguments make them.
+-- Theorems about the definitions, stated in the contracts of calls without arguments.
 pub mod KnownAnswers

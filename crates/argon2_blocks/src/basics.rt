@@ -1,6 +1,6 @@
 //! What our crates need of the language's own library, under its names and with its contracts.
 //!
-//! The code that C's calls reach uses these functions, so that the C library contains no code of
+//! Code reachable from C's calls uses these functions, so that the C library contains no code of
 //! the language's library, which comes without a licence (docs/DECISIONS.md).
 
 ghost use Rattle.std.specs.Prelude.{◌≡◌, ◌≢◌, ◌+◌, ◌≤◌, ◌++◌, drop, length, min, replicate, take};

@@ -152,7 +152,7 @@ impl IndexMut<usize> for Block {
 
 /// The exclusive or, word by word.
 impl BitXorAssign<&Block> for Block {
-    // Inlined into a loop, it would keep the words in a place that nobody overwrites.
+    // Inlined into a loop, it would leave words where nobody overwrites them.
     #[inline(never)]
     fn bitxor_assign(&mut self, rhs: &Block)
         ensures words { self.new ≡ xor self.old rhs.now }

@@ -58,7 +58,7 @@ pub const BLOCK_SIZE: usize = 1024;
 /// How many words of 64 bits a block has.
 pub const QWORDS_IN_BLOCK: usize = 128;
 
-/// How many drawn words an address block holds.
+/// How many pseudo-random words an address block holds.
 pub const ADDRESSES_IN_BLOCK: u32 = 128;
 
 /// The length of the prehash H0, in bytes.

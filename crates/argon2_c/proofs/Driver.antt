@@ -49,7 +49,7 @@ module _ (job : CallerJob) (tasks : ℕ) (has_pool : Bool) (s : Team (work_of jo
   abbrev upto : ℕ → ℕ
   upto n = n - (n - last)
 
-  -- the slices before slice number n, and after the last one as it left them
+  -- the slices before slice number n; after the last slice, what it left
   abbrev pub slices : ℕ → List (List (List ℕ))
   slices n = s.before (suc (upto n))
 

@@ -130,11 +130,11 @@ bounded job v w prehash few h =
       fits = omega (arith, fits);
     }
 
--- and leave that setting
+-- `setting_at` gives that setting
 pub kept : (job : CallerJob) (v : Variant) (w : Version) → is_out_of_bounds job ≡ false → setting_at job (Some v) (Some w) ≡ Some (setting_with job v w)
 kept job v w h = rw h refl
 
--- ---- the configuration of settings rests on their numbers alone: with any secret and associated data it is the same otherwise
+-- ---- apart from secret and associated data, settings' numbers alone determine their configuration
 
 -- a configuration with another secret and other associated data
 abbrev pub with_inputs : Config → Bor (List ℕ) → Bor (List ℕ) → Config
@@ -154,11 +154,11 @@ module _ (settings : Settings) (s a secret ad : Bor (List ℕ)) where
   at_no_numbers (Some v) None e is = sym is
   at_no_numbers (Some v) (Some w) e is = absurd (cc)
 
-  -- the numbers of a configuration have one with any other
+  -- settings with a configuration have one for any inputs
   pub other_inputs : (config : Config) → Ok config ≡ config_of settings s a → config_of settings secret ad ≡ Ok (with_inputs config secret ad)
   other_inputs config is = at_numbers (variant_of settings.variant) (version_of settings.version) config is
 
-  -- and those of none have none with any
+  -- settings without one have none for any inputs
   pub no_inputs : (e : Error) → Err e ≡ config_of settings s a → config_of settings secret ad ≡ Err e
   no_inputs e is = at_no_numbers (variant_of settings.variant) (version_of settings.version) e is
 
@@ -214,7 +214,7 @@ no_head text error old Done (inr (is, ascii, none)) = record {
   spelled = λ _ d s. absurd (none d s);
 }
 
--- what is done with any salt and hash behind a head is done with what the string decodes to
+-- what `Done` says of any salt and hash behind a head, it says of the decoded value
 pub by_head : {A : Type 0} (text : List ℕ) (h : Head) (old new : A) (answer : Result (Unit {0}) CallError) (Done : Spelled → Type 0) → HasHead text h
     → ((salt hash : List ℕ) → IsItem h.salt.now salt → IsItem h.hash.now hash → Done (spelled_with h salt hash)) → OfText text old new answer Done
 by_head text h old new answer Done (ascii, s) done = record {
@@ -225,7 +225,7 @@ by_head text h old new answer Done (ascii, s) done = record {
 
 -- ---- the job of an encoded hash rests on what it decodes to, the secret and the associated data alone
 
--- the job of the configuration that a value is verified with is that of any with what was decoded, the secret and the data
+-- the configuration used for a value has the job of any with the decoded fields, secret and data
 pub made_job : (d : Spelled) (pwd secret ad : List ℕ) (config used : Config) (job : CallerJob) → IsConfigOf d secret ad used → IsStoredConfig d secret ad config
     → used.hash_length ≡ length d.hash → job ≡ job_of (setting_of pwd d.salt used used.hash_length) used.hash_length
     → job ≡ job_of (setting_of pwd d.salt config (length d.hash)) (length d.hash)

@@ -167,7 +167,7 @@ module _ (pwd salt : List ℕ) (config : Config) (len : ℕ) where
 
 -- ---- from turns to a run
 
--- where two lists without their element at i are the same, so are all others of their elements
+-- if two lists without their element at i are the same, so are their elements elsewhere
 pub same_at : (xs ys : List (List (List ℕ))) (i k : ℕ) → i < length xs → i < length ys → k ≢ i → remove ys i ≡ remove xs i → get_or ys k [] ≡ get_or xs k []
 same_at xs ys i k in_xs in_ys ne same = elim (cases_lt k i) [
   | inl w ↦ sym (get_or-remove_below ys i [] k w in_ys) ∙ ap (λ (zs : List (List (List ℕ))). get_or zs k []) same ∙ get_or-remove_below xs i [] k w in_xs
@@ -213,7 +213,7 @@ module _ (job : CallerJob) where
     }
 
   module _ (start : List (List (List ℕ))) (slices : ℕ → List (List (List ℕ))) (run : IsRunOfTurns job start slices) where
-    -- what stands at another place than that of the slice taken out
+    -- what stands elsewhere than the slice taken out
     beside_same : (n k : ℕ) → n < 4 * job.passes → k ≢ n % 4 → slice_at (slices (suc n)) k ≡ slice_at (slices n) k
     beside_same n k few ne = same_at (slices n) (slices (suc n)) (n % 4) k (omega (arith, run.four n)) (omega (arith, run.four (suc n))) ne
         (all_unchanged (IsFill job n) (SameBeside job (n % 4)) (lane_of job (n % 4)) (FillsBeside n) (fills_apart n) job.lanes

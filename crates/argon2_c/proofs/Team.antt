@@ -11,7 +11,7 @@ pub miss : {A : Type 0} (f : ℕ → A) (place : ℕ) (value : A) (i : ℕ) → 
 miss f place value i e = rw e refl
 
 module _ (w : T.Work) where
-  -- ---- what holds, by what it is about
+  -- ---- the invariants, by subject
 
   pub record Counts (step : ℕ) (woken entered : ℕ → ℕ) : Type 0 where
     pub most : (j : ℕ) → woken j ≤ suc step

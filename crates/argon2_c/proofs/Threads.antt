@@ -71,7 +71,7 @@ module _ (w : T.Work) (members : ℕ) (is_long : Bool) where
     pub exists : part < w.tasks
     pub at : (part + n ≡ j) ⊎ (part + n ≡ j + w.tasks)
 
-  -- the wakes that a thread has not taken and those that it took are those that it got
+  -- pending wakes plus taken wakes are the wakes that a thread got
   abbrev Owes : Threads → ℕ → ℕ → Type 0
   Owes s j taken = s.wakes j + taken ≡ s.team.woken j + last_wake (s.place 0) j
 
@@ -792,7 +792,7 @@ module _ (w : T.Work) (members : ℕ) (is_long : Bool) where
       claimed_if_not_free : (i : ℕ) → i < w.tasks → s.team.state i ≢ 2 * s.team.step → IsClaimed s i
       claimed_if_not_free i exists ne = omega (arith, ne, facts.states.least i exists)
 
-      -- a thread that has taken as many parts as it may has come to one that is claimed, or that is another's own
+      -- a thread that may take no more parts has come to one that is claimed, or another's own
       claimed_after_most : s.team.is_over ≡ false → (j part n : ℕ) → j ≤ members → s.place j ≡ H.Taking part n → Position j part n → n ≤ most j → most j ≤ n
           → members < part → IsClaimed s part
       claimed_after_most over j part n inside is position few full far = elim (most_cases w members is_long j) [
@@ -832,7 +832,7 @@ module _ (w : T.Work) (members : ℕ) (is_long : Bool) where
       first_part : (j part : ℕ) → Position j part 0 → part ≡ j
       first_part j part position = elim position.at [ inl e ↦ omega (arith, e) | inr e ↦ absurd (omega (arith, e, position.exists)) ]
 
-      -- its own part is claimed when a thread takes no more
+      -- when a thread takes no more parts, its own is claimed
       own_claimed : (j part n : ℕ) → Position j part n → H.own_step w members is_long s j ≡ s.team.step → (n ≡ 0) ⊎ IsClaimed s j
           → (most j ≤ n) ⊎ (s.team.state part ≢ 2 * H.own_step w members is_long s j) → IsClaimed s j
       own_claimed j part n position now first why = elim first [

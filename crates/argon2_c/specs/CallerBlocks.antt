@@ -1,5 +1,5 @@
--- What a call returns that computes a whole hash over caller-provided blocks. On an error the blocks and the tag are
--- unchanged.
+-- The results of calls that compute a whole hash over caller-provided blocks. On an error the
+-- blocks and the tag are unchanged.
 use Rattle.std.specs.Prelude.{◌≡◌, ℕ, ◌*◌, ◌/◌, List, length, Option, Some, None, Result, Ok, Err}
 use Rattle.argon2_standard.specs.declared.config.Config.{Config}
 use Rattle.argon2_standard.specs.declared.error.Error.{Error}

@@ -1,4 +1,4 @@
--- What the calls return that only check settings and lengths.
+-- Results of the calls that only check settings and lengths.
 use Rattle.std.specs.Prelude.{◌≡◌, ℕ, Bool, true, false, List, length, Option, Some, None, option_map, Result, Ok, Err}
 use Rattle.std.specs.Borrow.{Bor}
 use Rattle.argon2_standard.specs.declared.config.Config.{Config}

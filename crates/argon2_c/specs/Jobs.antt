@@ -1,5 +1,6 @@
--- A job: the numbers of an accepted call's setting, its prehash, and the length of its tag. What the calls return
--- that make a job or write the encoded hash of the tag. On an error nothing is written.
+-- A job: the numbers of an accepted call's setting, its prehash, and the length of its tag. Results
+-- of the calls that make a job or write the encoded hash of the tag. On an error nothing is
+-- written.
 use Rattle.std.specs.Prelude.{◌≡◌, ℕ, ◌*◌, ◌<◌, ◌==◌, ◌||◌, Bool, nat_lt, if◌then◌else◌, List, length, Option, Some, None, Result, Ok, Err}
 use Rattle.std.specs.Borrow.{Bor}
 use Rattle.argon2_standard.specs.declared.config.Config.{Config}

@@ -1,4 +1,4 @@
--- What an encoded hash decodes to, whole and by its head.
+-- What an encoded hash and its head decode to.
 use Rattle.std.specs.Prelude.{◌≡◌, ℕ, Bool, true, false, List, length, min, Result, Ok, Err, ◌⊎◌}
 use Rattle.std.specs.Str.{IsAscii}
 use Rattle.argon2_standard.specs.declared.config.Config.{Config}
@@ -19,7 +19,7 @@ use Rattle.argon2_standard.specs.Standard.Grammar.{SpellsNothing}
 use Rattle.argon2_text.specs.Views.Texts.{IsSpellingOf}
 use Rattle.argon2_text.specs.declared.encoding.reading.Head.{Head}
 
--- ---- what the calls return that look at an encoded hash and verify nothing
+-- ---- results of the calls that look at an encoded hash and verify nothing
 
 -- ---- the numbers
 

@@ -7,8 +7,8 @@ use Rattle.argon2_c.specs.Team.{Work, Team, updated, wakes, enters, claims, writ
 -- Taking, Working or Ended.
 pub data Place : Type 0 where
   Waking : (thread : ℕ) → Place  -- is about to wake this thread for a step, and then those after it
-  Taking : (part taken : ℕ) → Place  -- is about to claim this part, after it took so many others
-  Working : (part taken : ℕ) → Place  -- has claimed this part, after it took so many others
+  Taking : (part taken : ℕ) → Place  -- is about to claim this part, after it took `taken` others
+  Working : (part taken : ℕ) → Place  -- has claimed this part, after it took `taken` others
   Telling : (parts : ℕ) → Place  -- is about to wake the caller's thread so many times, once for each part that it took
   Waiting : Place  -- waits until it is woken
   Woken : Place  -- is about to look whether the call is over

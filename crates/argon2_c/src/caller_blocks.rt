@@ -66,7 +66,7 @@ fn hash_context(
     Ok(())
 }
 
-/// Whether a hash is the tag of its own length. The settings are checked with this length, not with
+/// Whether a hash is a password's tag. The settings are checked with the hash's length, not with
 /// `settings.hash_length`. The tag is then in `tag`, of this length. Its errors are those of
 /// `hash`.
 #[inline(never)]
@@ -135,7 +135,7 @@ pub fn hash_job(numbers: &CallerJob, blocks: &mut [Block], out: &mut [u8]) -> Re
     Ok(())
 }
 
-/// Whether a hash is the tag of a job, which is then in a buffer of its length.
+/// Whether a hash is the tag of a job. A buffer of its length then holds the tag.
 #[inline(never)]
 pub fn verify_job(
     numbers: &CallerJob,

@@ -69,7 +69,7 @@ pub extern "C" fn proved_argon2_hash_over(
 }
 
 /// Returns 0 only where `hash` is the tag of a password, and 64 only where it is not;
-/// `settings.hash_length` is ignored. The tag is then in `tag`, which has the length of `hash`.
+/// `settings.hash_length` is ignored. Either way the tag is in `tag`, of the length of `hash`.
 #[unsafe(no_mangle)]
 pub extern "C" fn proved_argon2_verify_over(
     pwd: &[u8],

@@ -129,7 +129,7 @@ fn memory_len(config: &Config<'_>) -> u64
     }
 }
 
-/// The first parameter error for a salt of this length and a hash of the settings' own. An empty
+/// The first parameter error for a salt of this length and a hash of `hash_length` bytes. An empty
 /// password stands for any, since none is too short.
 pub fn settings_error(config: &Config<'_>, salt_len: u64) -> Option<Error>
     ensures { result ≡ table_error config.now 0 salt_len config.now.hash_length }

@@ -74,7 +74,7 @@ pub fn fill(
     Ok(())
 }
 
-/// Writes the tag to a buffer of its length, where slice 3 holds the blocks of the last pass.
+/// Writes the tag to a buffer of its length, assuming slice 3 holds the last pass's blocks.
 #[inline(never)]
 pub fn finish(numbers: &CallerJob, last: &[Block], out: &mut [u8]) -> Result<(), CallError>
     ensures { Finishes (setting_of_job numbers.now) numbers.now.hash_length last.now out.old out.new

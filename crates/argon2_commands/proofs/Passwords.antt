@@ -56,7 +56,7 @@ same_table_error : (config : Config) (one other salt hash : ℕ) → nat_lt max_
 unfolding table_error
 same_table_error config one other salt hash long also = rw (long, also) refl
 
--- so what is answered for what was read is the answer for all
+-- so the answer for what was read is the answer for all
 hash_of_all : (config : Config) (salt lines password bytes : List ℕ) → IsEnough password bytes → HashAnswers config salt password lines
     → HashAnswers config salt bytes lines
 hash_of_all config salt lines password bytes (inl same) h = subst (λ p. HashAnswers config salt p lines) same h
@@ -97,7 +97,7 @@ of_input : (P : List ℕ → Type 0) (input : Option (List ℕ)) (password : Lis
 of_input P None password read all h = (password, tt, h)
 of_input P (Some bytes) password read all h = (bytes, refl, all bytes (is_enough password bytes read) h)
 
--- the password was read from the input, but for what lies beyond the longest that is accepted
+-- the password is the input up to one byte more than the longest that is accepted
 abbrev WasRead : Option (List ℕ) → List ℕ → Type 0
 WasRead input password = IfSome input (λ bytes. password ≡ take (max_length + 1) bytes)
 
@@ -126,7 +126,7 @@ short_is_all (Some bytes) password read short =
     let taken : length password ≡ min (longest_password + 1) (length bytes) = ap length read ∙ length-take (longest_password + 1) bytes in
     (read ∙ take_all (longest_password + 1) bytes (omega (arith, taken, short)), short)
 
--- and a long one is of more than they take
+-- and if it is long, the input is too long
 pub long_is_more : (input : Option (List ℕ)) (password : List ℕ) → IfSome input (λ bytes. password ≡ take (longest_password + 1) bytes)
     → longest_password < length password → IsTooLong input
 long_is_more None password read long = tt
@@ -137,7 +137,7 @@ long_is_more (Some bytes) password read long =
 
 -- ---- one read after another
 
--- two reads are one of both
+-- two reads make one longer read
 pub read_on : (known now later : Option (List ℕ)) (bytes piece : List ℕ) → Consumes known now bytes → Consumes now later piece
     → Consumes known later (bytes ++ piece)
 read_on None now later bytes piece gone also = tt

@@ -220,7 +220,7 @@ at_five TooCostly status e five = refl
 at_five Output status e five = absurd (omega arith)
 at_five OutputShort status e five = absurd (omega arith)
 
--- 2 is that of a error, before anything was written, and of an output that lacked memory
+-- 2 is that of an error, before anything was written, and of an output that lacked memory
 pub at_two : (program : Program) (fault : Fault) (status : ℕ) (words : List (List ℕ)) (input before after : Option (List ℕ)) → status ≡ fault_status fault →
     ((error : Error) → fault ≡ Refused error → MayFailWith program words input error) → (fault ≡ OutputShort → HasAnswer program words input) →
     (IsBeforeOutput fault → Keeps before after) → status ≡ 2 → IsShortOrFails program words input before after
@@ -287,7 +287,7 @@ pub read_fault : (fault : Fault) (command : Command) (input : Option (List ℕ))
 read_fault fault command input (inl failed) may = subst (MayFail command input) (sym failed) tt
 read_fault fault command input (inr short) may = subst (MayFail command input) (sym short) may
 
--- a error among the faults of a command's answer is the command's
+-- an error among the faults of a command's answer is the command's
 pub is_refused : (program : Program) (words : List (List ℕ)) (input : Option (List ℕ)) (command : Command) (fault : Fault) → IsCommand program words command
     → MayFail command input fault → (error : Error) → fault ≡ Refused error → MayFailWith program words input error
 is_refused program words input command fault is may error refused =
@@ -297,7 +297,7 @@ is_refused program words input command fault is may error refused =
 pub is_no_output : {A : Type 0} (fault : Fault) (command : Command) (input : Option (List ℕ)) → MayFail command input fault → fault ≡ OutputShort → A
 is_no_output fault command input may short = absurd (subst (MayFail command input) short may)
 
--- what is known of an accepted value, where a error would have been an error
+-- what is known of a value that is `Ok`, since an error would be `Err`
 pub at_accepted : {A : Type 0} (error : Option Error) (P : Type 0) (value : A) →
     MatchOption error P (λ (e : Error). let r : Result A Error = Ok value in r ≡ Err e) → P
 at_accepted None P value h = h
@@ -317,7 +317,7 @@ status_is_no_usage status e = absurd (cc)
 pub answer_is_no_usage : {A : Type 0} (fault : Fault) (command : Command) (input : Option (List ℕ)) → MayFail command input fault → fault ≡ Usage → A
 answer_is_no_usage fault command input may usage = absurd (subst (MayFail command input) usage may)
 
--- what holds of neither fault of an output does not hold of that of a stream that failed
+-- what holds of neither fault of an output does not hold of a failed output's fault
 pub output_is_not : {A Short : Type 0} (fault : Fault) (P : Fault → Type 0) → (Short → fault ≡ OutputShort) → ((Short → ⊥) → fault ≡ Output)
     → (P OutputShort → ⊥) → (P Output → ⊥) → P fault → A
 output_is_not fault P short other not_short not_output p =
@@ -325,7 +325,7 @@ output_is_not fault P short other not_short not_output p =
 
 -- ---- bytes that were written in turn
 
--- a writer that took first bytes of the rest has taken as many more of all
+-- a writer that took some of the rest took that many more of all
 pub one_more_piece : (a b c : Option (List ℕ)) (bytes : List ℕ) (done count : ℕ) → done ≤ length bytes → Appends a b (take done bytes)
     → count ≤ length (take (length bytes - done) (drop done bytes)) → Appends b c (take count (take (length bytes - done) (drop done bytes)))
     → (done + count ≤ length bytes) × Appends a c (take (done + count) bytes)

@@ -33,7 +33,7 @@ pub word-texts_of : (words : List (String Global)) (place : ℕ) (s : String Glo
     → s ≡ slice_index_or words place s → text ≡ string_bytes s → word (texts_of words) place ≡ text
 word-texts_of words place s text h is e = get_or-map string_bytes words place s [] h ∙ ap string_bytes (sym is) ∙ sym e
 
--- of a word that fits a number was read
+-- a number was read from a word that fits
 pub number_read : (text : List ℕ) (read : Option ℕ) → MatchOption read ((n : ℕ) → IsNumber text n → ⊥) (IsNumber text)
     → ((n : ℕ) × IsNumber text n) → IsSome read
 number_read text None none fits = absurd (none fits.0 fits.1)

@@ -57,7 +57,7 @@ pub record CheckAnswers (encoded password : List ℕ) (result : Result Bool Unve
   pub spelled : (d : Spelled) (none : Bor (List ℕ)) → none.now ≡ [] → Spells encoded d →
       AnswersWithin (is_too_costly default_limits d) (IsVerdict password d.salt d.hash (decoded_config d none none) (nat_lt 1 d.parallelism)) result
 
--- what asking whether a text needs a new hash answers
+-- the answers to whether a text needs a new hash
 pub record RehashAnswers (encoded : List ℕ) (config : Config) (result : Result Bool Error) : Type 0 where
   pub unspelled : SpellsNothing encoded → result ≡ Err DecodingFail
   pub spelled : (d : Spelled) → Spells encoded d →

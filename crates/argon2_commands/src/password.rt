@@ -21,7 +21,7 @@ const PIECE: usize = 4096;
 
 /// All of the input, so that a password may have any bytes, a newline at its end too. It stops
 /// behind the first byte that makes the password too long for every call, and the call rejects what
-/// was read for its length.
+/// was read as too long.
 pub(crate) fn read_password<I: Read>(alloc: Global, input: &mut I) -> Result<Vec<u8>, Fault>
     ensures bytes { IfOk result (λ password. IfSome (I.remaining input.old) (λ bytes.
         password.items ≡ take (max_length + 1) bytes)) }

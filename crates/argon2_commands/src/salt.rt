@@ -9,7 +9,7 @@ use std::marker::Model;
 
 /// The salt that an argument's hexadecimal digits encode, two of either case a byte. The argument
 /// itself could not be random bytes, since it is UTF-8 without zeros. The bytes are made late, so
-/// that reading the arguments allocates nothing.
+/// that parsing the arguments allocates nothing.
 #[derive(Debug, Drop)]
 pub struct Salt<'a> {
     digits: &'a str,

@@ -1,4 +1,4 @@
--- What a board keeps of its lanes.
+-- The invariant of a board's lanes.
 use Rattle.std.proofs.Common.{◌≡◌, ◌≢◌, ℕ, zero, suc, ◌+◌, ◌<◌, List, [], ◌∷◌, ◌++◌, length, Some, None, refl, sym, ap, ◌∙◌, subst, arith, eq-eqb}
 use Rattle.std.proofs.Common.{get_or, set, map, inl, inr, length-set, replicate, ◌*◌, ◌≤◌, Bool, true, false, rules}
 use Rattle.std.proofs.lemmas.Grind.{common_steps}
@@ -94,7 +94,7 @@ left-out xs i here = let e = events_left-set xs i Out Done here in omega arith
 pub place_at : (slots : List Slot) (k : ℕ) (s : Slot) → slice_get slots k ≡ Some s → slice_get (map place_in slots) k ≡ Some (place_in s)
 place_at slots k s here = slice_get-map place_in slots k ∙ ap (option_map place_in) here
 
--- what a slot that is written shows
+-- the place of a slot just written
 written-same : (slots : List Slot) (i : ℕ) (s : Slot) → i < length slots → slice_get (map place_in (set slots i s)) i ≡ Some (place_in s)
 written-same slots i s within = place_at (set slots i s) i s (slice_get-set_same slots i s within)
 
@@ -105,7 +105,7 @@ written-other slots i k s other =
     ∙ ap (option_map place_in) (slice_get-set_other slots i k s other)
     ∙ sym (slice_get-map place_in slots k)
 
--- a lane that does not wait, after another place is written there
+-- a write of a non-waiting slot makes no lane wait
 still-gone : (slots : List Slot) (i k : ℕ) (s : Slot) → i < length slots → place_in s ≢ place.Waiting → (k ≢ i
     → slice_get (map place_in slots) k ≢ Some place.Waiting) → slice_get (map place_in (set slots i s)) k ≢ Some place.Waiting
 still-gone slots i k s within away before waits =
@@ -117,7 +117,7 @@ still-gone slots i k s within away before waits =
       | inr other ↦ before other.1 (sym (written-other slots i k s other.1) ∙ waits)
     ]
 
--- what is kept of each slot, after one is written
+-- after one slot is written, `IsSlot` still holds of each
 each-set : (job : Job) (slots : List Slot) (i : ℕ) (s : Slot) → i < length slots → ((k : ℕ) (t : Slot) → slice_get slots k ≡ Some t → IsSlot job k t)
     → IsSlot job i s → (k : ℕ) (t : Slot) → slice_get (set slots i s) k ≡ Some t → IsSlot job k t
 each-set job slots i s within each here k t at =
@@ -203,7 +203,7 @@ pub left-set : (slots : List Slot) (i : ℕ) (p : Place) (s : Slot) → slice_ge
     → sum_by events_left (map place_in (set slots i s)) + events_left p ≡ sum_by events_left (map place_in slots) + events_left (place_in s)
 left-set slots i p s here = rw map-set (events_left-set (map place_in slots) i p (place_in s) here)
 
--- the slot that was read at a lane of the board's own job, where it is out
+-- a slot read as out, at a lane of the board's own job, is out
 pub read-out : {job : Job} {next : ℕ} {slots : List Slot} {log : List Event} (own : Job) (lane : ℕ) (t : Slot) → AreLanes job next slots log
     → own ≡ job → lane < own.setting.lanes → t ≡ get_or slots lane t → t ≡ slot.Out → slice_get slots lane ≡ Some slot.Out
 read-out {slots} own lane t b same fits read is =
@@ -216,7 +216,7 @@ slot-out (slot.Waiting s) is = absurd (cc)
 slot-out slot.Out is = refl
 slot-out (slot.Done s) is = absurd (cc)
 
--- and the slot that was read there is out where the lane is
+-- and if the lane is out, the slot that was read there is
 pub out-read : {job : Job} {next : ℕ} {slots : List Slot} {log : List Event} (own : Job) (lane : ℕ) (t : Slot) → AreLanes job next slots log
     → own ≡ job → lane < own.setting.lanes → t ≡ get_or slots lane t → slice_get (map place_in slots) lane ≡ Some place.Out → t ≡ slot.Out
 out-read {slots} own lane t b same fits read out =
@@ -303,7 +303,7 @@ lanes-new job segments slots is ready =
           subst P f (rw (get_or_from_slice_get segments k h no_segment there) at own);
     }
 
--- of lanes that all wait none is out
+-- if all lanes wait, none is out
 pub none_out-waiting : (n : ℕ) → NoneOut (replicate n place.Waiting)
 none_out-waiting zero lane e = grind arith
 none_out-waiting (suc n) zero e = grind arith

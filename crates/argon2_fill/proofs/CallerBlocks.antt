@@ -95,7 +95,7 @@ slice_begun s good lane fits (a ∷ b ∷ rest) long x y ex ey =
 
 -- ---- from slice to slice
 
--- where the job's slice, number k of four, is filled beside the others, they are filled one slice further
+-- if the job's slice, number k of 4, is filled beside the others, all are filled one slice further
 pub filled_at : (j : Job) → IsJob j → (m : List (List (List ℕ))) → length m ≡ 4 → (k : ℕ) → j.slice ≡ k → (new : List (List ℕ)) →
     (HoldOthers j (among j (places_of_slices j.setting (remove m k))) → IsReadySlice j.setting j.pass j.slice (places_of_slices j.setting m k) →
     HoldsSlice j.setting j.pass j.slice (blocks_of_lane j.setting new)) →

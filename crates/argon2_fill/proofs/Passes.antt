@@ -50,7 +50,7 @@ ready_first s good lane fits blocks n first =
           ∙ recurrence_first s (block_at s) lane i h')),
     )
 
--- slices of whole segments, of which those of slice 0 are begun, are ready for pass 0
+-- slices of whole segments are ready for pass 0 once the segments of slice 0 are begun
 module _ (s : Setting) (places : Places) (long : (k lane : ℕ) → k < 4 → lane < s.lanes → length (places k lane) ≡ s.segment_length)
     (begun : IsReadySlice s 0 0 (places 0)) where
   ready_by : (k lane : ℕ) → k < 4 → lane < s.lanes → IsReady s 0 k lane (places k lane)
@@ -121,7 +121,7 @@ add_written w b d x y e f = omega (arith, e, f)
 pub blocks_more : (s : Setting) (n : ℕ) → IsSetting s → blocks_written s (n + 1) ≡ blocks_written s n + s.lanes * blocks_in_slice s (n / 4) (n % 4)
 blocks_more s n good = written_after s.lanes s.segment_length n good.long_segments
 
--- all slices together write each block once a pass, but for the first two of each lane
+-- all slices together write each block once a pass, except each lane's first two in pass 0
 pub all_written : (s : Setting) → IsSetting s → blocks_written s (4 * s.passes) ≡ s.passes * memory_blocks s - 2 * s.lanes
 all_written s good =
     let some : (4 * s.passes == 0) ≡ false = ne_eqb (4 * s.passes) 0 (λ e. absurd (omega (arith, good.some_pass, e))) in
@@ -174,7 +174,7 @@ last_of_lane m lane column some e =
     omega (arith, d, p, is) in
     rw (q, r) refl
 
--- where they are those of the last pass, they are the setting's
+-- those of the last pass are the setting's last blocks
 pub last_blocks-are : (s : Setting) (lanes : Lanes) → ((lane : ℕ) → lane < s.lanes →
     get_or (lanes lane) (s.segment_length - 1) [] ≡ block_at s (record { pass = s.passes - 1; lane = lane; column = lane_length s - 1 })) →
     last_blocks_in s.lanes s.segment_length lanes ≡ last_blocks s
@@ -233,7 +233,7 @@ module _ (s : Setting) (places : ℕ → Places) (run : IsRunOfLanes s places) w
 
 -- ---- turns of any kind
 
--- a lane stands among others, and whether it is the first, as often as among them all
+-- a lane's count in an order: 1 if it is first, plus its count in the rest
 count_first : (l lane n : ℕ) (order : List ℕ) → count_by (λ k. k == lane) (l ∷ order) ≡ n → cond (l == lane) 1 0 + count_by (λ k. k == lane) order ≡ n
 count_first l lane n order e = sym (sum_by-cons (λ k. cond (k == lane) 1 0) l order) ∙ e
 

@@ -217,7 +217,7 @@ fn combine_last_of_slice(job: &Job, slice: &[Block], out: &mut Block)
 }
 
 /// Writes the hash of the last blocks of all lanes, combined (RFC 9106, 3.2, steps 7 and 8): the
-/// tag, where slice 3 holds the blocks of the last pass.
+/// tag, if slice 3 holds the blocks of the last pass.
 pub fn finalize_slice(job: &Job, slice: &[Block], out: &mut [u8])
     requires slice_fits { length slice.now ≡ job.now.setting.lanes * job.now.setting.segment_length }
     requires some { 0 < length out.old }

@@ -75,7 +75,7 @@ pub fn initialize(context: &Context<'_>, memory: &mut Memory)
     }
 }
 
-/// Writes what one of a lane's first two blocks is hashed from.
+/// Writes the H' input for a lane's first or second block.
 fn first_input(prehash: &[u8; PREHASH_DIGEST_LENGTH], lane: u32, column: u32, out: &mut [u8])
     requires { length out.old ≡ 72 }
     ensures { out.new ≡ prehash.now ++ to_le_bytes w32 column ++ to_le_bytes w32 lane }
@@ -106,8 +106,7 @@ pub fn write_first_block(job: &Job, lane: u32, column: u32, block: &mut Block)
     wipe(&mut bytes, 0);
 }
 
-/// Writes a lane's first two blocks. They are copied, since the memory lends no block to be
-/// written.
+/// Writes a lane's first two blocks. They are copied in, since `Memory` lends no block mutably.
 fn write_first(job: &Job, lane: u32, memory: &mut Memory)
     requires shape { HasShape job.now.setting memory.old }
     requires lane_fits { lane < job.now.setting.lanes }
@@ -144,7 +143,7 @@ pub fn fill_sequential(context: &Context<'_>, memory: &mut Memory)
 {
     facts_of_context(context);
     let job = Job::new(context);
-    // Each slice is moved out while it is filled. A `Memory` has no place for that, so all slices
+    // Each slice is moved out while it is filled. A `Memory` cannot miss a slice, so all slices
     // move out here.
     let mut slices = take_slices(memory);
     fill_slices(&job, &mut slices);
@@ -215,7 +214,7 @@ fn fill_lanes(snapshot: &Snapshot<'_>, segments: &mut [Segment])
 /// `uses_sequential` says so, and otherwise by workers. The memory has the context's lanes and lane
 /// length, and the first two blocks of each lane as `initialize` leaves them.
 ///
-/// With workers, memory or the start of a worker can be denied: `OutOfMemory` or `WorkerRefused`.
+/// With workers, it returns `OutOfMemory` if memory is denied, or `WorkerRefused` if a start is.
 /// The memory then has no lanes.
 pub fn fill_memory_blocks<R: Threads + Wait + Sync>(
     rt: &R,
@@ -254,7 +253,7 @@ fn combine_last_blocks(memory: &Memory, out: &mut Block)
 }
 
 /// Writes the hash of the combined last blocks (RFC 9106, 3.2, step 8), and overwrites these, since
-/// they tell the tag.
+/// they reveal the tag.
 pub(crate) fn write_tag(block: &mut Block, out: &mut [u8])
     requires some { 0 < length out.old }
     requires few { length out.old < 2 ^ 32 }
@@ -268,7 +267,7 @@ pub(crate) fn write_tag(block: &mut Block, out: &mut [u8])
 }
 
 /// The hash of the last blocks of all lanes, combined (RFC 9106, 3.2, steps 7 and 8): the tag,
-/// where the memory is filled. The memory has the context's lanes and lane length. If memory cannot
+/// if the memory is filled. The memory has the context's lanes and lane length. If memory cannot
 /// be allocated, the call returns `OutOfMemory`.
 #[tactic(auto, unfolding(argon2_standard::specs::Standard::SettingsTable::table_error))]
 pub fn finalize(alloc: Global, context: &Context<'_>, memory: &Memory) -> Result<Vec<u8>>

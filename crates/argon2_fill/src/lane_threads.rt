@@ -1,4 +1,4 @@
-//! The lanes of a slice of the caller's, at the same time.
+//! Fills the lanes of a caller's slice at the same time.
 
 ghost use Rattle.std.specs.Prelude.{◌≡◌, ℕ, ◌+◌, ◌-◌, ◌*◌, ◌/◌, ◌^◌, ◌<◌, [], ◌∷◌, length};
 ghost use Rattle.argon2_fill.specs.Views.Chunks.{CanFill};

@@ -27,7 +27,7 @@ pick-lane_fits s word at good here = drawn_lane_fits s word at good here
 
 -- ---- one write
 
--- where the matrix holds at the places read what f says, the block made from it is the recurrence's
+-- if the matrix agrees with f at the places read, the block made from it is the recurrence's
 pub from_reads : (s : Setting) (at : Position) (m : Matrix) (f : Blocks) →
     m (previous s at).lane (previous s at).column ≡ f (previous s at) →
     ((word : ℕ) → m (pick s word at).lane (pick s word at).column ≡ f (pick s word at)) →
@@ -41,7 +41,7 @@ from_reads s at m f before picked old =
 
 -- ---- the matrix in the middle of a slice
 
--- below a lane's next column stand this pass's blocks, and from there on those of the last pass
+-- below a lane's next column are this pass's blocks, from there on those of the pass before
 pub record Stands (s : Setting) (pass slice : ℕ) (m : Matrix) (done : ℕ → ℕ) : Type 0 where
   pub now : (r lane column : ℕ) → r ≡ pass → lane < s.lanes → column < lane_length s →
       column < next_column s pass slice (done lane) → m lane column ≡ block_at s (record { pass = r; lane = lane; column = column })
@@ -155,7 +155,7 @@ module _ (s : Setting) (good : IsSetting s) (pass slice : ℕ) (few : slice < 4)
 
 -- ---- a whole slice
 
--- an entry moves one of what its lane has left to write
+-- an entry moves a block of its lane from left to done
 count_moves : (x lane d n blocks : ℕ) → d + (cond (x == lane) 1 0 + n) ≡ blocks → cond (lane == x) (d + 1) d + n ≡ blocks
 count_moves x lane d n blocks h = elim (eqb_tells lane x) [
   | inl w ↦ rw w.0 (let k = rw (eq-eqb x lane (sym w.1)) at h in omega (arith, k))

@@ -14,7 +14,8 @@ use Rattle.argon2_memory.specs.Theorems.Schedule.{Matrix, Progress, IsSchedule, 
 use Rattle.argon2_memory.specs.Theorems.AnyOrder.{IsRun, IsEntry, progress_before, entry_position, NoEntryReadsOthers, PicksHoldTheirBlocks}
 use Rattle.argon2_memory.proofs.AnyOrder.{Stands, run-stands, count_room, read_pick, here, later, same_slice, after-stands}
 
--- ---- the references of an independent segment rest on neither prehash nor version, and what a write reads of other lanes no write of the slice changes
+-- ---- the references of an independent segment use neither prehash nor version, and no write of
+-- the slice changes what a write reads of other lanes
 
 -- a setting's references are those of its variant, lanes, segment length and passes alone
 pub reference_positions_of-setting : (s : Setting) (pass slice lane : ℕ) →

@@ -74,7 +74,7 @@ module _ (v : SnapshotValue) (job : IsJob v.job) (lane index : ℕ) (lane_fits :
   own_index c e = let d = div-add-mod c s.segment_length in let p : c / s.segment_length * s.segment_length ≡ v.job.slice * s.segment_length = ap
       (λ q. q * s.segment_length) e in omega (arith, d, p)
 
-  -- the block before one that isn't the first of its segment stands in the segment
+  -- a block's predecessor stands in the same segment, unless the block is the segment's first
   pub seen_before : (blocks : List (List ℕ)) → 0 < index → get_or blocks (index - 1) [] ≡ block_seen v blocks lane (previous s at).column
   seen_before blocks h =
       let c = at.column - 1 in
@@ -270,13 +270,13 @@ write_in_place blocks given front back index prev reference with_xor p r d new s
 
 -- ---- blocks that are made, with zeros behind them
 
--- a source before a made index names the same block where zeros stand behind
+-- appending zeros changes no block that a source before a made index names
 pub source_in_front : (xs zs : List (List ℕ)) (index : ℕ) (source : Source) → index < length xs → IsBefore index source →
     source_block xs source ≡ source_block (xs ++ zs) source
 source_in_front xs zs index (Own k) h before = sym (get_or_append_left xs zs [] k (let e : k < index = before in omega (arith, e, h)))
 source_in_front xs zs index (Other block) h before = refl
 
--- a block compressed from two that are made, put among them, is put among all
+-- a block compressed from two made ones and put among these is put among all
 pub made_in_front : (xs zs all : List (List ℕ)) (index : ℕ) (prev reference : Source) (with_xor : Bool) → xs ++ zs ≡ all → index < length xs →
     IsBefore index prev → IsBefore index reference →
     set xs index (made_block (source_block xs prev) (source_block xs reference) (get_or xs index []) with_xor) ++ zs

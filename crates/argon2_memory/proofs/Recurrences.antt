@@ -132,7 +132,7 @@ length-left s (suc last) slice few h =
     let m = mul-le-mul_left s.segment_length b in
     omega (arith, e, m)
 
--- one element less, of two
+-- of two, one is left
 cut_leaves_some : (cut : Bool) (xs : List (ℕ × ℕ)) → 2 ≤ length xs → 0 < length (cond cut (without_last xs) xs)
 cut_leaves_some true xs h = let e = length-take (length xs - 1) xs in omega (arith, e)
 cut_leaves_some false xs h = omega arith
@@ -162,7 +162,7 @@ module _ (s : Setting) (at : Position) (good : IsSetting s) (here : IsPosition s
   elsewhere-append : (ys : List (ℕ × ℕ)) → (0 < at.pass ⊎ 0 < slice_of s at.column) → 2 ≤ length (elsewhere ++ ys)
   elsewhere-append ys h = let two = two_elsewhere h in let both = length-append elsewhere ys in omega (arith, two, both)
 
-  -- in the first slice of all the columns before are all of the own segment
+  -- in the very first slice, all columns before are of the own segment
   two_in_first_slice : at.pass ≡ 0 → slice_of s at.column ≡ 0 → 1 < at.column → 2 ≤ length (elsewhere ++ own_columns)
   two_in_first_slice no_pass no_slice h =
       let own = length-columns at.pass (slice_of s at.column * s.segment_length) at.column in
@@ -200,7 +200,7 @@ cond_below true h h' = h
 cond_below false h h' = h'
 
 module _ (s : Setting) (word : ℕ) (at : Position) where
-  -- in the first slice of all the drawn lane is the own one
+  -- in the very first slice, the drawn lane is the own one
   pub own_lane_first : at.pass ≡ 0 → slice_of s at.column ≡ 0 → (drawn_lane s word at == at.lane) ≡ true
   own_lane_first no_pass no_slice = rw (no_pass, no_slice) (eq-eqb at.lane at.lane refl)
 

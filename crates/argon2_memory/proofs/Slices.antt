@@ -33,7 +33,7 @@ rank_fits j few k h = elim (cases_lt k j.slice) [
   | inr w ↦ rw (le-ltb k j.slice w) (omega (arith, h))
 ]
 
--- at which it stands where the job's is taken out of four
+-- and stands there once the job's is taken out of four
 pub among-remove : {A : Type 0} (j : Job) (xs : List A) (d : A) → j.slice < length xs → (k : ℕ) → k ≢ j.slice →
     get_or (remove xs j.slice) (rank_among j k) d ≡ get_or xs k d
 among-remove j xs d h k ne = elim (cases_lt k j.slice) [
@@ -272,7 +272,7 @@ module _ (j : Job) (good : IsJob j) (a b c : List (List ℕ)) (long-a : length a
 pub map-remove : {A B : Type 0} (f : A → B) (xs : List A) (i : ℕ) → map f (remove xs i) ≡ remove (map f xs) i
 map-remove f xs i = rw (map-append, ← take-map, ← drop-map) refl
 
--- four things that are read as slices, of three
+-- four things made of three, read as slices
 pub around : {A : Type 0} (f : A → List SegmentValue) (j : Job) (others four : List A) → IsBeside (record { job = j; others = map f others }) →
     length four ≡ 4 → remove four j.slice ≡ others → ((d : A) → get_or four j.slice d ≡ get_or others 0 d) → IsAround j (map f four)
 around f j [] four beside count removed stand_in = absurd (let e = beside.slices in omega (arith, e))

@@ -1,2 +1,2 @@
--- The definitions that the clauses of the root calls use of a kept memory, in the order in which to read them.
+-- The definitions by which clauses of the root calls describe a kept memory, in reading order.
 pub mod Kept

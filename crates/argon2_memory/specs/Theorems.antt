@@ -1,3 +1,3 @@
--- Statements about the definitions. The contracts of calls without arguments make them.
+-- Theorems about the definitions, stated in the contracts of calls without arguments.
 pub mod Schedule
 pub mod AnyOrder

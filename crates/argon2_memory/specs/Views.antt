@@ -1,5 +1,5 @@
--- How the types and the steps of the code look to contracts. No clause of a root call in Rattle uses them; those of the
--- calls that C makes over caller-provided blocks do.
+-- How the types and the steps of the code look to contracts. Root calls in Rattle do not use them
+-- in clauses; C's calls over caller-provided blocks do.
 pub mod Jobs
 pub mod Segments
 pub mod Places

@@ -91,7 +91,7 @@ pub fn facts_of_context(context: &Context<'_>)
     let (_passes, _blocks) = (context.config.time_cost, context.memory_blocks);
 }
 
-/// H0 of a job. A function and no method, since `Job` is seen by users.
+/// H0 of a job. A function, since users would see a method of `Job`.
 pub fn prehash_of_job(job: &Job) -> [u8; PREHASH_DIGEST_LENGTH]
     ensures { result ≡ job.now.setting.prehash }
 {
@@ -99,7 +99,7 @@ pub fn prehash_of_job(job: &Job) -> [u8; PREHASH_DIGEST_LENGTH]
 }
 
 /// The job of the first slice of the first pass, for a setting that is given by numbers. A
-/// function and no method, since `Job` is seen by users.
+/// function, since users would see a method of `Job`.
 pub fn job_of_setting(
     prehash: &[u8; PREHASH_DIGEST_LENGTH],
     variant: Variant,
@@ -284,7 +284,7 @@ impl Job {
     }
 }
 
-/// How many slices a fill goes through: those of all passes, which may be more than 32 bits count.
+/// How many slices a fill goes through: those of all passes, which may exceed 32 bits.
 pub fn slice_count(job: &Job) -> u64
     ensures { result ≡ 4 * job.now.setting.passes }
 {

@@ -32,7 +32,7 @@ pub fn take_slice(slices: &mut Slices, slice: u32) -> Vec<Segment>
     mem::replace(&mut slices[slice], Vec::new(alloc))
 }
 
-/// The slices beside one, in rising order.
+/// The other three slices, in rising order.
 pub fn others(slices: &Slices, slice: u32) -> [&[Segment]; 3]
     requires { slice < 4 }
     ensures { map (λ s. s.now) result ≡ remove (segments_of slices.now) slice }
@@ -46,8 +46,8 @@ pub fn others(slices: &Slices, slice: u32) -> [&[Segment]; 3]
     }
 }
 
-/// Allocates the room of a whole matrix at once, and frees it. A system that overcommits memory
-/// denies one request that it can never meet. In parts it may grant the same amount, and kill the
+/// Allocates room for a whole matrix at once, and frees it. A system that overcommits memory denies
+/// a single request that it can never meet. It may grant the same amount in parts, and kill the
 /// process that writes there.
 fn ask_for_room(alloc: Global, lanes: u32, lane_length: u32) -> std::result::Result<(), AllocError>
     requires fits { lanes * lane_length < 2 ^ 32 }
@@ -193,7 +193,7 @@ impl Memory {
         ensures zeros { IfOk result (λ m. m ≡ zero_memory lanes (lane_length / 4)) }
         ensures refused { IfErr result (λ e. e ≡ Error.OutOfMemory) }
     {
-        // First, so that nothing is written where the whole can never be had.
+        // First, so that nothing is written if the whole can never be allocated.
         ask_for_room(alloc, lanes, lane_length)?;
         let segment_length = lane_length / SYNC_POINTS;
         let slices = [
@@ -264,7 +264,7 @@ impl Memory {
         );
     }
 
-    /// How many blocks were written since the memory was made, modulo 2^64.
+    /// How many blocks were written since the memory was made or wiped, modulo 2^64.
     pub fn writes(&self) -> u64
         ensures { result ≡ writes self.now }
     {

@@ -1,5 +1,6 @@
--- What a proved function gives at the machine's model with threads: from any memory, under every scheduler, if the
--- call returns, what its `ensures` says of the value that it returned. The arguments are plain values.
+-- At the machine's model with threads, from any memory and under every scheduler: if a call of a
+-- proved function returns, its `ensures` holds of the returned value. The arguments are plain
+-- values.
 --     every_schedule      by the toolchain's `host_runs`, for a host that calls the function and returns what it returned
 -- Assumes nothing.
 use mathlib.Core.Path.{◌≡◌, subst}
@@ -75,7 +76,7 @@ says_of {𝓥 = 𝓥} 𝓛 R r vs E e φ says h =
     fact_use 𝓥 (Is R r vs) (via 𝓥 O (fst∗ 𝓥 O E) (shows 𝓛 R r vs)) (λ is.
     fact_use 𝓥 e (via 𝓥 E (snd∗ 𝓥 O E) says) (λ x. fact_i 𝓥 φ (sep 𝓥 O E) (h is x)))
 
--- the machine value stands for the result, of which a clause says a fact
+-- the machine value stands for a result with the fact of a clause
 pub stands_for : (𝓛 : Logic 𝓤) (S : Signature) (ks : Kepts S.params) (κs : Lfts S.lifetimes) (a : Args S κs) (Fact : (type_at S.result κs).Denot → Type 0) (v : Val) (r : Res S κs)
     → ent 𝓤 (sep 𝓤 (sem 𝓛 ((type_at S.result κs).own_val r (v ∷ []))) (exits 𝓛 S ks κs a (λ o. fact 𝓤 (Fact r)))) (fact 𝓤 (StandsFor (type_at S.result κs) Fact v))
 stands_for 𝓛 S ks κs a Fact v r = says_of 𝓛 (type_at S.result κs) r (v ∷ []) (exits 𝓛 S ks κs a (λ o. fact 𝓤 (Fact r))) (Fact r) (StandsFor (type_at S.result κs) Fact v)

@@ -1,4 +1,4 @@
--- The machine value of a tag: its bytes stand in it, as the machine has them.
+-- The machine value of a tag contains the tag's bytes, as the machine has them.
 use mathlib.Core.Path.{◌≡◌, refl, ap, ap₂, ◌∙◌}
 use mathlib.Core.Logic.{inl, inr, ∥∥₁_map}
 use mathlib.Core.Bool.{true, false}

@@ -17,10 +17,10 @@ use Rattle.std.specs.contracts.rt.LibcRuntime
 use Rattle.argon2.specs.declared.limits.Limits.{Limits}
 use Rattle.argon2_schedule.specs.Answers.{Inputs, Stored}
 
--- In every program that has this code, from any memory and under every scheduler, the run of a host that makes this
--- call once is finite and no thread faults. Where it stops, either no two threads are about to race, and some thread
--- can run, waits or sleeps, or the call has returned a machine value for which the fact holds. The process does not
--- exit.
+-- In every program that has this code, from any memory and under every scheduler, the run of a host
+-- that makes this call once is finite and no thread faults. Where it stops, the call has returned a
+-- machine value for which the fact holds, or no two threads are about to race and some thread can
+-- run, waits or sleeps. The process does not exit.
 abbrev pub EverySchedule : Code → Callee → List Val → (Val → Type 0) → Type 0
 EverySchedule code callee arguments Fact = (look : Symbol → Entry) → HasT look true code
     → Hosted true false false look (λ (_ : Unit {0}). callee) (call tt arguments stop) Fact

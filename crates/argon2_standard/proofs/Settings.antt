@@ -24,7 +24,7 @@ use Rattle.argon2_blocks.specs.Standard.Hprime.{chain_length, hash_chain, hprime
 use Rattle.argon2_blocks.proofs.Hashing.{hprime-hash_chain}
 use Rattle.argon2_blocks.proofs.WordLists.{length-bytes_of}
 
--- ---- what settings keep to that are not rejected, and what H0 is the hash of
+-- ---- what accepted settings keep to, and what H0 is the hash of
 
 -- no row of a table has a condition that holds
 abbrev NoneApplies : List (Bool × Error) → Type 0

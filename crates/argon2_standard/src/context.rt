@@ -173,7 +173,7 @@ pub fn accepted_context<'a>(config: Config<'a>, pwd: &'a [u8], salt: &'a [u8]) -
     }
 }
 
-/// H0 of a context. A function and no method, since `Context` is seen by users.
+/// H0 of a context. A function, since users would see a method of `Context`.
 pub fn prehash_of_context(context: &Context<'_>) -> [u8; PREHASH_DIGEST_LENGTH]
     ensures { let c = context.now in
         result ≡ prehash_of c.pwd.now c.salt.now c.config c.config.hash_length }

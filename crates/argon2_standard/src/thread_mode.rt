@@ -9,7 +9,7 @@ pub enum ThreadMode {
     /// The caller's thread fills one lane after another.
     Sequential,
 
-    /// As many workers as there are lanes.
+    /// One worker per lane (one lane: none).
     Parallel,
 
     /// At most this many workers, and no more than there are lanes. With 0 or 1 the caller's thread

@@ -55,7 +55,7 @@ impl Variant {
         *self as u32
     }
 
-    /// The same number, in 64 bits, since a word of an address block has it (RFC 9106, 3.4.1.2).
+    /// The same number in 64 bits, for a word of an address block's input (RFC 9106, 3.4.1.2).
     pub fn as_u64(&self) -> u64
         ensures { result ≡ variant_number self.now }
     {

@@ -79,13 +79,13 @@ both_bytes (x ∷ a) b p q (suc i) = both_bytes a b (λ k. p (suc k)) q i
 pub take_bytes : (n : ℕ) (bytes : List ℕ) → IsBytes bytes → IsBytes (take n bytes)
 take_bytes n bytes h = front_bytes (take n bytes) (drop n bytes) (rw (take-append-drop n bytes) h)
 
--- a string that is told to be no item is none
+-- a string that fails the check is no item
 pub no_item : (text : List ℕ) (told : Bool) → IsTrue told ↔ IsSomeItem text → told ≡ false → IsSomeItem text → ⊥
 no_item text told tells fails item = let t = sym fails ∙ tells.1 item in cc
 
 -- ---- the crate's decoding of an item
 
--- two errors of which the first that there is counts are none where there is none
+-- if `or_else` of two errors is none, both are none
 no_errors : (x y : Option DecodeError) → or_else x y ≡ None → (x ≡ None) × (y ≡ None)
 no_errors None y e = (refl, e)
 no_errors (Some e) y none = absurd cc
@@ -234,7 +234,7 @@ pub text_in_steps : (c : Config) (salt hash front with_salt with_mark whole : Li
 unfolding text_of
 text_in_steps c salt hash front with_salt with_mark whole e0 e1 e2 e3 = rw (e3, e2, e1, e0) (simp append_assoc)
 
--- what is read of a part, or that nothing could be read, without the fault
+-- the result of reading a part as an option, without the fault
 pub read_part : {A E : Type 0} → (Nothing : Type 0) (IsRead : A → Type 0) (IsFault : E → Type 0) (r : Result A E)
     → MatchResult r IsRead (λ e. IsFault e × Nothing) → MatchOption (result_ok r) Nothing IsRead
 read_part Nothing IsRead IsFault (Ok a) h = h

@@ -22,7 +22,7 @@ use Rattle.argon2_text.proofs.Items.{length-base64}
 
 -- ---- buffers that are filled piece by piece
 
--- a buffer that a piece was put into up to its end is what was before and that piece, in whatever words
+-- a buffer that a piece fills to its end is what was before and that piece, or what equals it
 pub all_put : (before new piece same : List ℕ) (end : ℕ) → take end new ≡ before ++ piece → end ≡ length new → piece ≡ same → new ≡ before ++ same
 all_put before new piece same end front whole is =
     sym (take_all end new (omega (arith, whole))) ∙ front ∙ ap (λ (x : List ℕ). before ++ x) is

@@ -3,12 +3,12 @@
 //! | Line | The run's streams |
 //! |---|---|
 //! | `run INPUT WORDS` | an input with these bytes |
-//! | `run/broken INPUT WORDS` | an input that fails behind them, and gives them one at a time |
+//! | `run/broken INPUT WORDS` | an input that gives these bytes one at a time, then fails |
 //! | `run/full ROOM WORDS` | the input `password`; the output and the error stream take so many bytes, and cannot be flushed |
 //! | `run/stuck ROOM WORDS` | the input `password`; the output and the error stream take so many bytes, and then none, without a failure |
 //! | `run/without_memory WORDS` | the input `password`, and an output without memory |
 //! | `run/fails_once STEP REASON WORDS` | the input `password`, and an output whose first `write` or `flush` fails, for want of `memory` or for `another` reason |
-//! | `start ARGUMENT..` | the input `password`: the arguments, with the program's name, are looked at first |
+//! | `start ARGUMENT..` | the input `password`: the arguments, with the program's name, are checked first |
 //! | `tool INPUT WORDS`, `tool/broken`, .. `tool/start` | the same of the shell's tool |
 //! | `arguments ARGUMENT..` | none: the answer is these words, each after how often it is repeated in a row |
 //!

@@ -8,7 +8,7 @@ use std::alloc::Global;
 /// The most bytes of H' that are asked for.
 const ROOM: usize = 1024;
 
-/// The hash of so many bytes of some pieces.
+/// The hash, of the given length, of some pieces.
 pub fn plain(alloc: Global, words: &mut Words<'_>) -> Result<String> {
     let length = words.number()? as usize;
     let mut pieces = Vec::new(alloc);

@@ -1,4 +1,4 @@
-//! The words of a line, and what a hash depends on, which they say.
+//! The words of a line, and the hash inputs that they name.
 
 use anyhow::{Context, Result, anyhow, bail, ensure};
 use argon2::parts::context;

@@ -26,7 +26,7 @@
 //! | `run INPUT WORDS`, `run/broken`, `run/full`, `run/stuck`, `run/without_memory`, `arguments`, `start`, `tool INPUT WORDS`, .. | see `commands.rt` |
 //!
 //! INPUTS are `VARIANT VERSION T M P LEN MODE PASSWORD SALT SECRET DATA`. MODE is `seq`, `par`,
-//! `max` and a number, or `all`: then all thread modes, and the call that goes by no mode, have to
+//! `max` and a number, or `all`: then all thread modes, and the call that ignores the mode, have to
 //! return the same. Bytes are `-` for none, text behind a `'`, or hexadecimal (`line.rt`). TEXT is
 //! the rest of the line, or behind `hex` its bytes in hexadecimal. For an error the answer is `ERR`
 //! and its message.

@@ -69,6 +69,6 @@ PicksEnds =
     (pick (two_lanes_of 2) (2 ^ 32) (in_lane_0 1 4) ≡ record { pass = 1; lane = 1; column = 2 })
     × (pick (two_lanes_of 2) (2 ^ 32 + 4294967295) (in_lane_0 1 4) ≡ record { pass = 0; lane = 1; column = 6 })
 
--- the first word that lane 1 draws in pass 1 and slice 2, from no block (3.4.1.2)
+-- the first data-independent word of lane 1 in pass 1 and slice 2 (3.4.1.2)
 abbrev pub DrawsWord : Type 0
 DrawsWord = address_word (two_lanes_of 2) (record { pass = 1; lane = 1; column = 4 }) ≡ 0xbd535ffac09cd66c

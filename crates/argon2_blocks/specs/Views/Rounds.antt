@@ -3,7 +3,7 @@ use Rattle.std.specs.Prelude.{ℕ, ◌+◌, ◌*◌, List, map, take, drop, bit_
 use Rattle.std.specs.List.{fold, enumerate_from, range_with_len}
 use Rattle.argon2_blocks.specs.Standard.Blake2b.{mix_g, mix_places, put_at, words_at}
 
--- four G of a round in turn, from the one with this number on: the columns from 0, the diagonals from 4
+-- four G of a round in turn, from number `first` on: 0 for the columns, 4 for the diagonals
 abbrev pub half_of_round : List ℕ → List ℕ → List ℕ → ℕ → List ℕ
 half_of_round m v s first =
     fold (λ v (k, at). put_at v at (mix_g
@@ -11,7 +11,7 @@ half_of_round m v s first =
     (slice_index m (slice_index s (2 * k + 1)))
     (words_at v at))) v (take 4 (drop first (enumerate_from 0 mix_places)))
 
--- the state after the rounds: each word with two of v
+-- the state after the rounds: each word XOR two of v
 abbrev pub next_state : List ℕ → List ℕ → List ℕ
 next_state h v =
     map (λ i. bit_xor (bit_xor (slice_index h i) (slice_index v i)) (slice_index v (i + 8)))

@@ -83,8 +83,8 @@ fn write_half(out: &mut [u8], at: usize, v: &[u8; BLAKE2B_OUT_LENGTH])
     copy_from_slice(&mut out[at..at + HALF_LENGTH], &v[..HALF_LENGTH]);
 }
 
-/// Fills a hash of more than 64 bytes, where the link has V 1: W 1 to W r, and then a hash of what is
-/// left, 33 to 64 bytes. It overwrites the link.
+/// Fills a hash of more than 64 bytes, where the link has V 1: W 1 to W r, and then V (r + 1), the
+/// remaining 33 to 64 bytes. It overwrites the link.
 fn write_chain(out: &mut [u8], link: &mut Link)
     requires { 64 < length out.old }
     ensures chain { let r = chain_length (length out.old) in
@@ -113,8 +113,8 @@ fn wipe_frames() {
     wipe(&mut frames, [0; 16]);
 }
 
-/// H' (RFC 9106, 3.3): fills `out`, of 1 to 2^32 - 1 bytes, with the hash of that length of
-/// `input`. It allocates nothing.
+/// H' (RFC 9106, 3.3): fills `out`, of 1 to 2^32 - 1 bytes, with the hash of `input` of that
+/// length. It allocates nothing.
 pub fn hprime(out: &mut [u8], input: &[u8])
     requires some { 0 < length out.old }
     requires few { length out.old < 2 ^ 32 }

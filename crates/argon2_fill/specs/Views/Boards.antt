@@ -60,7 +60,7 @@ is_waiting Done = false
 abbrev pub least_waiting : List Place → Option ℕ
 least_waiting places = position_from is_waiting 0 places
 
--- a take of a lane is legal where it is the least that waits, and puts it out
+-- a take is legal if its lane is the least that waits; the lane is then out
 abbrev pub after_take : Option ℕ → ℕ → List Place → Option (List Place)
 after_take None lane places = None
 after_take (Some least) lane places = if least == lane then Some (slice_set places lane Out) else None
@@ -84,7 +84,7 @@ and_then (Some places) event = after_event event places
 abbrev pub replay : ℕ → List Event → Option (List Place)
 replay lanes events = fold and_then (Some (replicate lanes Waiting)) events
 
--- ---- what a board keeps of its lanes
+-- ---- the invariant of a board's lanes
 
 -- the state of the lane of a slot
 abbrev pub place_in : Slot → Place

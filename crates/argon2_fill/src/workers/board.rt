@@ -1,7 +1,7 @@
 //! The lanes of one slice, which workers claim and put back under one lock, and fill outside it.
 //! Each lane is in exactly one state: it waits, is out, or is done.
 //!
-//! Of a value that comes out of a lock, the prover knows only its type's own facts. So the types of
+//! The prover knows only the type's own facts of a value that comes out of a lock. So the types of
 //! claims, filled lanes and boards state what the fill relies on. What no type states is checked at
 //! run time.
 
@@ -84,8 +84,8 @@ impl Claim {
         self.lane
     }
 
-    /// Fills the lane's segment from a snapshot of the same job. The claim comes back, as it was,
-    /// exactly where the snapshot is of another job.
+    /// Fills the lane's segment from a snapshot of the same job. The claim comes back unchanged
+    /// exactly if the snapshot is of another job.
     pub fn fill(self, snapshot: &Snapshot<'_>) -> std::result::Result<Filled, Claim>
         ensures exact { IsOk result ↔ (self.job ≡ snapshot.now.job) }
         ensures filled { IfOk result (λ filled. (filled.job ≡ self.job)
@@ -274,8 +274,8 @@ impl Board {
         }
     }
 
-    /// Puts a filled lane back, which is then done. It is handed back to the caller, and the board
-    /// is unchanged, exactly where it is of another job or its lane is not out.
+    /// Puts a filled lane back, which is then done. Exactly if it is of another job or its lane is
+    /// not out, the caller gets it back instead, and the board is unchanged.
     pub fn put(&mut self, filled: Filled) -> std::result::Result<(), Filled>
         ensures exact { IsOk result
             ↔ ((filled.job ≡ self.old.job) × (slice_get self.old.places filled.lane

@@ -57,8 +57,8 @@ const ROOM: usize = 32;
 /// little more. The rest is for a program's thread-locals and the calls of a gate.
 const STACK: usize = 256 * 1024;
 
-/// One worker: it takes, fills and puts one lane after another, until none waits or a filling or a
-/// put is rejected.
+/// One worker: it takes, fills and puts one lane after another, until none waits, or a fill or put
+/// is rejected.
 // Its frames have H0. It is never inlined, so that `work_and_wipe` may overwrite them.
 #[inline(never)]
 fn work<R: Wait, G: Gate>(rt: &R, board: &Mutex<Option<Board>>, snapshot: &Snapshot<'_>, gate: &G) {
@@ -80,7 +80,7 @@ fn work<R: Wait, G: Gate>(rt: &R, board: &Mutex<Option<Board>>, snapshot: &Snaps
     }
 }
 
-/// A worker's whole thread, whose stack the system may keep for others.
+/// A worker's whole thread. Other threads may get its stack later.
 fn work_and_wipe<R: Wait, G: Gate>(
     rt: &R,
     board: &Mutex<Option<Board>>,

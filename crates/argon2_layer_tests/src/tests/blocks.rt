@@ -1,4 +1,4 @@
-//! The compression beside a simple form of it, and what blocks look like from outside.
+//! The compression against a simple form of it, and what blocks look like from outside.
 
 ghost use Rattle.std.specs.Prelude.{◌≡◌, ◌<◌};
 ghost use Rattle.argon2_blocks.specs.Standard.Blake2b.{Four, put_at, words_at};

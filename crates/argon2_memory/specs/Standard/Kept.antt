@@ -48,8 +48,8 @@ HoldsLastPass s matrix = (lane column : ℕ) → lane < s.lanes → column < lan
 abbrev pub HoldsFill : Setting → MemoryValue → Type 0
 HoldsFill s m = HasShape s m × HoldsLastPass s (block_of m)
 
--- a memory after a resource error: the computation's, or one without lanes. A memory of the setting's shape loses
--- its lanes only if workers are started
+-- a memory after a resource error: filled as above, or without lanes. A memory of the setting's
+-- shape loses its lanes only if workers are started
 abbrev pub IsLeft : Bool → Setting → MemoryValue → MemoryValue → Type 0
 IsLeft workers s before after =
     HoldsFill s after ⊎ ((after ≡ no_memory) × (HasShape s before → IsTrue workers))

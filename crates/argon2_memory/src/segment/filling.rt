@@ -233,9 +233,9 @@ pub fn fill_segment(snapshot: &Snapshot<'_>, lane: u32, segment: &mut Segment)
 /// Fills a lane's segment of the job's slice. The caller provides the segment and the other three
 /// slices, in rising order and each lane after lane, whatever their contents.
 ///
-/// If the slices below the job's hold the blocks of its pass and those above it the blocks of the
-/// pass before, and the segment is as a fill of the job requires, the segment then holds the blocks
-/// of the job's pass.
+/// The segment then holds the blocks of the job's pass, if it was as a fill of the job requires,
+/// the slices below the job's hold the blocks of that pass, and those above the blocks of the pass
+/// before.
 pub fn fill_caller_segment(
     job: &Job,
     lane: u32,

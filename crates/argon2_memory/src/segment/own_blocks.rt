@@ -166,9 +166,9 @@ impl Segment {
         &self.blocks[usize::min(index, self.blocks.len() - 1)]
     }
 
-    /// Writes the block at the index from two sources, in place, and counts the write: their
-    /// compression or, with `with_xor`, that combined with the old block (RFC 9106, 3.2). A source
-    /// of the same segment comes before the index.
+    /// Writes the compression of two sources at the index or, with `with_xor`, that combined with
+    /// the old block (RFC 9106, 3.2). It writes in place, and counts the write. A source of the
+    /// same segment comes before the index.
     pub fn write(&mut self, index: usize, prev: Source<'_>, reference: Source<'_>, with_xor: bool)
         requires index_fits { index < length self.old.blocks }
         requires prev_before { IsBefore index prev }
@@ -190,7 +190,7 @@ impl Segment {
     }
 }
 
-/// The blocks of a lane's segment while it is filled, and how often one of them was written.
+/// The blocks of a lane's segment while it is filled, and the number of writes to them.
 pub(crate) trait OwnBlocks {
     ghost use Rattle.std.specs.Prelude.{ℕ};
     ghost use Rattle.argon2_memory.specs.Standard.Kept.{SegmentValue};

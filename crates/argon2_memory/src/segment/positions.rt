@@ -134,8 +134,8 @@ fn address_block(job: &Job, lane: u32, number: u32, out: &mut Block)
     fill_block(&zero, &once, out, false);
 }
 
-/// Makes `words` the address block of an index. Unless the index is the first, `words` is that of
-/// the index before.
+/// Makes `words` the address block of an index. Unless `is_first`, `words` must hold that of the
+/// index before.
 fn turn_to(job: &Job, lane: u32, index: u32, is_first: bool, words: &mut Block)
     requires { is_first ≡ false → words.old ≡ addresses job.now.setting job.now.pass lane
         job.now.slice ((index - 1) / 128) }

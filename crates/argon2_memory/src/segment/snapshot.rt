@@ -9,7 +9,7 @@ use crate::job::Job;
 use std::marker::Model;
 
 /// The three slices beside the job's: those below it hold the blocks of the job's pass, and those
-/// above it the blocks of the pass before. The type says so, which a `Beside` leaves open.
+/// above it the blocks of the pass before. This type guarantees that; a `Beside` does not.
 #[derive(Drop)]
 pub struct Snapshot<'a> {
     beside: Beside<[&'a [Segment]; 4]>,
@@ -42,7 +42,7 @@ impl<'a> Snapshot<'a> {
         self.beside.job()
     }
 
-    /// The slices, without what they hold.
+    /// The slices, whatever they hold.
     pub(super) fn beside(&self) -> &Beside<[&'a [Segment]; 4]>
         ensures value { result.now ≡ self.now }
         ensures snapshot { IsSnapshot self.now }

@@ -1,4 +1,5 @@
-//! Decoding and writing an encoded hash, what comes where memory is denied, and what the small types show.
+//! Decoding and writing an encoded hash, their results when memory is denied, and what the small
+//! types show.
 
 use crate::surface::{order_of_variants, order_of_versions};
 use crate::tests::denied::print_answer;
@@ -90,7 +91,7 @@ fn head_faults_denied_in_turn(rt: HostRuntime) -> Result<(), Fail> {
     Ok(())
 }
 
-// ---- the small types, and where a fault of base64 leads. The others are rows of `argon2_vectors`
+// ---- the small types, and the error of a base64 fault. Other cases are rows of `argon2_vectors`
 
 #[test]
 fn orders_variants_and_versions_by_their_numbers(rt: HostRuntime) {

@@ -8,8 +8,8 @@ ghost use Rattle.argon2_standard.specs.declared.version.Version.{Version};
 
 use argon2_standard::variant::Variant;
 
-/// The length of what each encoded hash has: its marks and the digits of its version, which are two
-/// in both versions, so that no length depends on it.
+/// The length of what all encoded hashes share: the marks and the version's digits. Both versions
+/// have two, so no length depends on the version.
 const FIXED_LEN: u64 = "$$v=19$m=,t=,p=$$".len() as u64;
 
 /// The length of the unpadded base64 of `len` bytes, by parts, since four times a length of a slice

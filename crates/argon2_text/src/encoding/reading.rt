@@ -30,7 +30,7 @@ struct Pieces<'a> {
     hash: &'a [u8],
 }
 
-/// What an encoded hash decodes to before its salt and its hash, and these two in base64.
+/// The decoded values of an encoded hash, with its salt and its hash still in base64.
 #[derive(Clone, Copy)]
 pub struct Head<'a> {
     /// The variant.
@@ -125,8 +125,8 @@ fn head_of(text: &[u8]) -> Option<Head<'_>>
     })
 }
 
-/// The pieces of a string, if it has all of them but the version. The hash is all that is left: no
-/// byte of it is looked at here.
+/// The pieces of a string, if it has them; the version is optional. The hash is all that is left:
+/// no byte of it is looked at here.
 #[tactic(auto, unfolding(crate::specs::Views::Cutting::pieces_of))]
 fn pieces_of(text: &[u8]) -> Option<Pieces<'_>>
     ensures { option_map pieces_view result ≡ pieces_of text.now }
@@ -213,7 +213,7 @@ fn cut(text: &[u8], mark: u8) -> Option<(&[u8], &[u8])>
     Some((before, behind))
 }
 
-/// Where the first `mark` is. It looks at no byte behind it, as a search of many bytes at a time
+/// Where the first `mark` is. It looks at no byte behind it; a search of many bytes at a time
 /// would.
 fn first(bytes: &[u8], mark: u8) -> Option<usize>
     ensures { MatchOption result
@@ -250,7 +250,7 @@ fn number(text: &[u8]) -> Option<u32>
     digits(text)
 }
 
-/// The number of one decimal digit or more, if it fits 32 bits.
+/// The value of one or more decimal digits, if it fits 32 bits.
 fn digits(bytes: &[u8]) -> Option<u32>
     ensures { MatchOption result
         (IsNumeral 10 bytes.now → digits_value 10 bytes.now < 2 ^ 32 → ⊥)

@@ -26,7 +26,7 @@ pub fn write_encoded(config: &Config<'_>, salt: &[u8], hash: &[u8], text: &mut [
     put_hash(text, at, hash);
 }
 
-/// The same for C's calls, which encode the salt as the hash.
+/// The same for C's calls, which encode the salt like the hash.
 #[tactic(auto, using(crate::proofs::Writing::lengths))]
 pub fn write_encoded_by_sums(config: &Config<'_>, salt: &[u8], hash: &[u8], text: &mut [u8])
     requires { length text.old ≡ length (text_of (spelled_of config.now salt.now hash.now)) }

@@ -1,4 +1,4 @@
--- Where the bits of all bytes are fewer than eight, each byte is ASCII.
+-- If the OR of all bytes is below 128, each byte is ASCII.
 use Rattle.std.proofs.Common.{ℕ, zero, suc, ◌≤◌, ◌<◌, List, [], ◌∷◌, get_or, arith, inl, inr, refl}
 use Rattle.std.specs.Prelude.{bit_or}
 use Rattle.std.specs.List.{fold}

@@ -65,7 +65,7 @@ impl Gate for EachSlice {
     }
 }
 
-/// A memory that is filled under a gate by one of the two calls.
+/// A memory that is filled under a gate, with or without a permit.
 fn filled<R: Threads + Wait + Sync>(
     rt: &R,
     alloc: Global,

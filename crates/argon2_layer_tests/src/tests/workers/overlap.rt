@@ -1,4 +1,4 @@
-//! Workers under gates, which count those that start, or hold them back until others have come so far.
+//! Workers under gates that count those that start, or hold them back until others reach a point.
 
 use super::{AllBut, Call, Tested, second_board, snapshot_of, two_lanes};
 use argon2_fill::workers::Event::{Put, Take};
@@ -18,7 +18,7 @@ use std::thread::Threads;
 /// How often a gate looks before it gives up.
 const LOOKS: u32 = 1_000_000_000;
 
-/// Waits until a word is a number or more, and notes in `late` where that takes too long.
+/// Waits until a word is at least a number, and notes in `late` if that takes too long.
 pub(super) fn wait(word: &AtomicU64, number: u64, late: &AtomicU64) {
     for _look in 0..LOOKS {
         if word.load(Ordering::SeqCst) >= number {

@@ -1,4 +1,4 @@
--- The secret and the data of the configuration are of their own lengths.
+-- The lengths passed are those of the configuration's own secret and data.
 use Rattle.std.proofs.Common.{refl}
 use Rattle.argon2_standard.proofs.context.first_refusal.Goals as goal
 

@@ -17,7 +17,7 @@ const OF_TEXT: Costs = (32, 3, 4, 96);
 
 const NONE: Costs = (0, 0, 0, 0);
 
-// Limits of which one is below what that encoded hash names.
+// Limits, one or all below what that encoded hash names.
 const BELOW: [Costs; 5] = [
     (31, 3, 4, 96),
     (32, 2, 4, 96),
@@ -76,7 +76,7 @@ const ABOVE: [&str; 2] = [
     "$argon2d$m=4294967295,t=0,p=0$$",
 ];
 
-// Above the default limit of the passes, in as many characters as there may be.
+// Above the default limit of the passes, with as many digits as a number may have.
 const LONG: &str = "$argon2id$v=19$m=8,t=4294967295,p=1$AAAAAAAAAAA$\
     AAAAAAAAAAAAAAAAAAAAAAAAAAAAAAAAAAAAAAAAAAAAAAAAAAAAAAAAAAAAAAAAAAAAAAAAAAAAAAAAAAAAAAAAAAAA\
     AAAAAAAAAAAAAAAAAAAAAAAAAAAAAAAAAAAAAAAAAAAAAAAAAAAAAAAAAAAAAAAAAAAAAAAAAAAAAAAAAAAAAAAAAAAA\
@@ -146,7 +146,7 @@ fn a_costly_text_allocates_nothing_denied_in_turn(rt: HostRuntime) -> Result<(),
     print_answer(&rt, Ok(true))
 }
 
-// Strings of four more characters each, whose hashes are whole groups of base64.
+// Each string is four characters longer; the hashes are whole groups of base64.
 #[test]
 fn a_costly_text_of_any_length_allocates_nothing_denied_in_turn(
     rt: HostRuntime,

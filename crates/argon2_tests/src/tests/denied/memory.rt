@@ -1,4 +1,5 @@
-//! The matrix call by call, and each call twice in a reusable buffer, where each denied allocation gives the error.
+//! The matrix, call by call, and each call twice in a reusable buffer: a denied allocation returns
+//! its error.
 
 use super::{AD, ARGON2D, ARGON2ID, PASSWORD, SALT, SECRET, TEXT, in_mode, print_answer};
 use argon2::parts::blake2b::hprime;

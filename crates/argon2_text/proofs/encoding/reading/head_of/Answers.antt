@@ -1,4 +1,4 @@
--- At each exit the pieces that were cut are those of any head, so the piece that is rejected rejects every head.
+-- At each exit, any head has the pieces that were cut, so a rejected piece rejects every head.
 use Rattle.std.proofs.Common.{refl, sym}
 use Rattle.argon2_text.specs.Views.Texts.{pieces_view}
 use Rattle.argon2_text.proofs.Items.{no_head, head_at}
