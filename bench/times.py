@@ -36,7 +36,7 @@ COSTS = ((256, 2, 1, 1), (1024, 2, 1, 1), (4096, 2, 1, 1), (19456, 2, 1, 1), (10
 
 
 def timed(call, *arguments):
-    """Returns a call of a C function that returns its milliseconds, or None if it fails."""
+    """Returns a function that calls C and returns the milliseconds, or None on failure."""
     def run():
         begin = time.perf_counter_ns()
         failed = call(*arguments)
@@ -128,7 +128,7 @@ def openssl(library, cost):
 
 
 # An implementation: its names in figures.txt and on pages; a library of the machine or of bench/run; and what makes the
-# timed call, which returns milliseconds. Without such a case it makes no call.
+# timed call, which returns milliseconds. It makes none for unsupported cases.
 Peer = namedtuple('Peer', 'name label library call')
 PEERS = (
     Peer('v4', 'this library, AVX-512', 'v4.so', ours),

@@ -18,7 +18,7 @@ PROMISED = {'argon2_blocks', 'argon2_standard', 'argon2_memory', 'argon2_fill', 
 
 # Unexpected forms of the code, which the page of decisions has to name.
 FORMS = (
-    '`Memory::wipe` and `prepare_memory` write blocks too', 'computes the hash once for both lines',
+    '`Memory::writes` counts only `Segment::write` and `Memory::set`', 'computes the hash once for both lines',
     'stops reading its input as soon as', '`run` is in `argon2_commands`', '`./argon2` writes lines of its own',
     '`encode_slice`', '`itoa`', '`arrayvec`', '`hex` also decodes', '`anyhow`',
     'Tests deny memory in calls with four lanes', "A test of the workers' `Gate` fills three passes")
@@ -55,7 +55,7 @@ def test_quotes_of_the_logic_are_in_its_files(needs):
 
 
 @pytest.mark.parametrize('page', [FIRST, 'docs/INSTALL.md', 'docs/PYTHON.md'])
-def test_the_oldest_c_library_is_the_newest_that_release_asks_for(page):
+def test_pages_name_the_newest_c_library_that_release_needs(page):
     asked = {int(version) for file in TOP.glob('release/*/*') if file.is_file()
              for version in re.findall(rb'\0GLIBC_2\.(\d+)\0', file.read_bytes())}
     named = re.findall(r'(?:GNU C\s+library|glibc)(?:\W|older|than|version|needs?)*2\.(\d+)', read(page))
