@@ -135,7 +135,7 @@ USUAL = "--exclude-tag", "codes", "--exclude-tag", "denied"
 
 
 def test_its_own_tests_pass_in_java_17(jar, classes, drawn):
-    passes(66, "java", *words_of(jar, classes, drawn, *USUAL))
+    passes(68, "java", *words_of(jar, classes, drawn, *USUAL))
 
 
 @pytest.fixture(scope="module")
@@ -153,7 +153,7 @@ def system(tmp_path_factory):
 def test_its_own_tests_pass_in_newer_java(jar, classes, drawn, system, version):
     folders = TOP, jar.parent, drawn["RANDOM_HASHES"].parent, "/usr/share/java", "/usr/share/maven-repo"
     java = f"/usr/lib/jvm/java-{version}-openjdk-amd64/bin/java"
-    passes(66, "unshare", "--mount", "--propagation", "private", "bash", "-euc", ELSEWHERE, "bash", system, *folders,
+    passes(68, "unshare", "--mount", "--propagation", "private", "bash", "-euc", ELSEWHERE, "bash", system, *folders,
            "--", java, *words_of(jar, classes, drawn, *USUAL))
 
 
@@ -168,7 +168,7 @@ def test_its_own_tests_pass_on_arm64(classes, drawn, tmp_path):
     run(JAVA / "pack", jar, built("aarch64") / "aarch64", env=DATED)
     java = root / "usr/lib/jvm/java-17-openjdk-arm64/bin/java"
     words = words_of(jar, classes, drawn, *USUAL, "--exclude-tag", "terabytes")
-    passes(65, "qemu-aarch64-static", "-L", root, java, *words)
+    passes(67, "qemu-aarch64-static", "-L", root, java, *words)
 
 
 def test_each_public_member_is_documented(tmp_path):
@@ -200,7 +200,7 @@ def headers():
 def test_denied_memory_and_threads(jar, classes, drawn, tmp_path):
     (tmp_path / "denying.c").write_text(DENYING)
     run(CC, "-shared", "-fPIC", "-Wall", "-Wextra", "-Werror", tmp_path / "denying.c", "-o", tmp_path / "denying.so")
-    passes(3, "java", *words_of(jar, classes, drawn, "--include-tag", "denied"),
+    passes(4, "java", *words_of(jar, classes, drawn, "--include-tag", "denied"),
            env={"LD_PRELOAD": tmp_path / "denying.so", "DENIED": tmp_path})
 
 

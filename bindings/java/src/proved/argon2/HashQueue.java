@@ -1,6 +1,7 @@
 package proved.argon2;
 
 import java.time.Duration;
+import java.util.List;
 import java.util.Set;
 import java.util.concurrent.CancellationException;
 import java.util.concurrent.CompletableFuture;
@@ -72,7 +73,7 @@ public final class HashQueue implements AutoCloseable {
     public <T> CompletableFuture<T> submit(Supplier<T> call) {
         Task<T> task = new Task<>(call);
         task.whenComplete((value, error) -> task.leaveQueue());
-        Argon2Exception.require(hasPlace(task) && isQueued(task), Argon2Exception.BUSY);
+        Argon2Exception.require(isAccepted(task), Argon2Exception.BUSY);
         return task;
     }
 
@@ -86,6 +87,9 @@ public final class HashQueue implements AutoCloseable {
             return call.get(); // waiting for another thread of the queue could be a deadlock
         }
         CompletableFuture<T> future = submit(call);
+        if (Thread.currentThread() instanceof Worker worker && worker.current != null) {
+            worker.current.whenComplete((value, error) -> future.cancel(true)); // from a thread of another queue
+        }
         try {
             return future.get();
         } catch (InterruptedException interruption) {
@@ -111,17 +115,22 @@ public final class HashQueue implements AutoCloseable {
         tasks.forEach(task -> task.cancel(true));
     }
 
+    /** Accepts one call at a time: the pool also counts a thread of another caller that the system then denies. */
+    private boolean isAccepted(Task<?> task) {
+        synchronized (tasks) {
+            return hasPlace(task) && isQueued(task);
+        }
+    }
+
     /**
      * Adds a call if there is a place. A cancelled call needs no place, even before its own {@link Task#leaveQueue} has
      * run: the user's callbacks run first, and may take long or submit the next call.
      */
     private boolean hasPlace(Task<?> task) {
-        synchronized (tasks) {
-            if (tasks.size() >= places) {
-                tasks.stream().filter(CompletableFuture::isDone).forEach(Task::leaveQueue);
-            }
-            return tasks.size() < places && tasks.add(task);
+        if (tasks.size() >= places) {
+            tasks.stream().filter(CompletableFuture::isDone).forEach(Task::leaveQueue);
         }
+        return tasks.size() < places && tasks.add(task);
     }
 
     /** Passes a call to the threads. If the system denies another thread, the call waits for those that there are. */
@@ -138,9 +147,19 @@ public final class HashQueue implements AutoCloseable {
         } finally {
             if (!isQueued) {
                 tasks.remove(task);
+                task.cancel(false); // the pool may have queued it before it was denied the thread
             }
         }
         return isQueued;
+    }
+
+    /** Rejects the calls that wait if no thread is left that could make them. */
+    private void rejectWithoutThread() {
+        List<Task<?>> waiting;
+        synchronized (tasks) {
+            waiting = threads.getPoolSize() == 0 ? List.copyOf(tasks) : List.of();
+        }
+        waiting.forEach(task -> task.completeExceptionally(new Argon2Exception(Argon2Exception.BUSY)));
     }
 
     /** A call, and the future of its result. */
@@ -211,6 +230,8 @@ public final class HashQueue implements AutoCloseable {
         public void run() {
             try {
                 super.run();
+            } catch (OutOfMemoryError denied) { // the system denied a thread that takes the place of this one
+                rejectWithoutThread();
             } finally {
                 Native.free(kept);
             }

@@ -169,7 +169,8 @@ public class PasswordHasher {
 
     /** Makes a call with the UTF-8 of a password, and clears it. */
     static <T> T encoded(CharBuffer password, Function<byte[], T> call) {
-        ByteBuffer buffer = ByteBuffer.allocate(Math.multiplyExact(MOST_BYTES, password.remaining()));
+        Argon2Exception.require(password.remaining() <= LONGEST_ARRAY / MOST_BYTES, Argon2Exception.OUT_OF_MEMORY);
+        ByteBuffer buffer = ByteBuffer.allocate(MOST_BYTES * password.remaining());
         byte[] bytes = NONE;
         try {
             boolean isUnicode = !StandardCharsets.UTF_8.newEncoder().encode(password, buffer, true).isError();

@@ -27,7 +27,7 @@ public record Tuning(Settings settings, double milliseconds, OptionalDouble load
      * It finds none if even the weakest settings that protect passwords take longer, or need more memory.
      */
     public static Optional<Tuning> tune(Duration within, Settings most) {
-        return search(within.toNanos() / 1e6, most, Tuning::measure);
+        return search(within.getSeconds() * 1e3 + within.getNano() / 1e6, most, Tuning::measure);
     }
 
     static Optional<Tuning> search(double within, Settings most, ToDoubleFunction<Settings> measure) {

@@ -6,7 +6,8 @@ import static proved.argon2.PasswordHasherTest.*;
 
 import java.io.IOException;
 import java.nio.file.*;
-import java.util.concurrent.CompletableFuture;
+import java.util.Collections;
+import java.util.concurrent.*;
 import org.junit.jupiter.api.*;
 
 /** While a file {@code memory} or {@code threads} exists, that is denied; a file {@code once} denies memory once. */
@@ -68,5 +69,29 @@ class DeniedTest {
         first.cancel(true);
         assertTrue(second.join());
         Files.delete(denied);
+    }
+
+    /** None may count on the thread of another caller, which is denied as well. */
+    @Test
+    void withoutThreadsNoCallOfSeveralCallersIsAccepted() throws IOException, InterruptedException, ExecutionException {
+        int count = 6;
+        ThreadPoolExecutor callers = (ThreadPoolExecutor) Executors.newFixedThreadPool(count);
+        callers.prestartAllCoreThreads();
+        CyclicBarrier start = new CyclicBarrier(count);
+        for (int round = 0; round < 10; round++) {
+            HashQueue fresh = new HashQueue(4, 64);
+            Callable<Integer> call = () -> {
+                start.await();
+                return assertThrows(Argon2Exception.class, () -> fresh.submit(() -> "")).number();
+            };
+            Path denied = deny("threads");
+            for (Future<Integer> number : callers.invokeAll(Collections.nCopies(count, call))) {
+                assertEquals(BUSY, number.get());
+            }
+            Files.delete(denied);
+            assertEquals("", fresh.run(() -> ""));
+            fresh.close();
+        }
+        callers.shutdown();
     }
 }

@@ -169,6 +169,21 @@ class HashQueueTest {
     }
 
     @Test
+    void aCancelledCallStopsItsCallInAnotherQueue() throws InterruptedException {
+        CompletableFuture<Boolean> hasBegun = new CompletableFuture<>();
+        try (HashQueue other = new HashQueue(1, 0)) {
+            CompletableFuture<String> outer = queue.submit(() -> other.run(() -> {
+                hasBegun.complete(true);
+                return ENDLESS_HASH.get();
+            }));
+            soon(hasBegun);
+            outer.cancel(true);
+            assertEquals("free", onceThereIsPlace(() -> other.run(() -> "free")));
+        }
+        assertHasBothPlaces();
+    }
+
+    @Test
     void aCallCanRunAnotherInItsPlace() {
         assertEquals("inner", soon(queue.submit(() -> queue.run(() -> queue.run(() -> "inner")))));
         try (HashQueue other = new HashQueue(1, 0)) {

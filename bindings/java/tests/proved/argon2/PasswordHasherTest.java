@@ -50,6 +50,27 @@ class PasswordHasherTest {
     }
 
     @Test
+    void aPasswordThatFitsIntoNoArrayIsRejected() {
+        CharSequence longest = new CharSequence() {
+            @Override
+            public int length() {
+                return Integer.MAX_VALUE;
+            }
+
+            @Override
+            public char charAt(int index) {
+                return 'a';
+            }
+
+            @Override
+            public CharSequence subSequence(int start, int end) {
+                return this;
+            }
+        };
+        assertFails(OUT_OF_MEMORY, () -> hasher.encode(longest));
+    }
+
+    @Test
     void nullIsRejected() {
         byte[] none = null;
         for (Executable call : new Executable[] {

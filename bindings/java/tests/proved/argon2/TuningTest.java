@@ -32,5 +32,6 @@ class TuningTest {
         assertEquals(Settings.owasp2().withMemory(8192).withPasses(Limits.DEFAULT.passes()), found.settings());
         assertTrue(found.milliseconds() > 0 && found.load().isPresent());
         assertTrue(Tuning.tune(Duration.ZERO, Settings.owasp2()).isEmpty());
+        assertTrue(Tuning.tune(Duration.ofSeconds(Long.MIN_VALUE), Settings.owasp2()).isEmpty());
     }
 }
