@@ -90,6 +90,9 @@ type run struct {
 }
 
 func (r run) hash(password []byte) (string, error) {
+	if err := r.check(password, uint64(r.settings.SaltLength)); err != nil {
+		return "", err
+	}
 	salt := make([]byte, r.settings.SaltLength)
 	if _, err := rand.Read(salt); err != nil {
 		return "", fmt.Errorf("%w: %v", ErrNoRandomBytes, err)
@@ -125,6 +128,9 @@ func (r run) verifyAndUpdate(encoded string, password, secret []byte, isOld bool
 }
 
 func (r run) verifyUnknown(password []byte) (bool, error) {
+	if err := r.check(password, uint64(r.settings.SaltLength)); err != nil {
+		return false, err
+	}
 	r.settings.Threads = r.settings.threads(maxVerifyingThreads)
 	// Nobody sees the hash: zeros suffice as salt.
 	tag, err := r.compute(password, make([]byte, r.settings.SaltLength), false)

@@ -242,8 +242,11 @@ func TestNoSecretIsPrinted(t *testing.T) {
 	s.Secret = []byte("hidden")
 	hasher := NewHasher(s, 1, 0)
 	peppers := must(NewPeppers(hasher, Pepper{"2026", s.Secret}))
-	for _, verb := range []string{"%v", "%+v", "%#v", "%s", "%x", "%d"} {
-		shown := fmt.Sprintf(strings.Repeat(verb+" ", 5), s, hasher, peppers, peppers.peppers, *peppers)
+	for _, verb := range []string{"%v", "%+v", "%#v", "%s", "%x", "%d", "%w", "%p"} {
+		shown := fmt.Sprintf(strings.Repeat(verb+" ", 5), hasher, peppers, peppers.peppers, *hasher, *peppers)
+		if verb != "%w" && verb != "%p" {
+			shown += fmt.Sprintf(verb+" "+verb, s, Pepper{"2026", s.Secret})
+		}
 		for _, secret := range []string{"hidden", "68696464656e", "104 105", "0x68, 0x69"} {
 			if strings.Contains(shown, secret) {
 				t.Error(shown)

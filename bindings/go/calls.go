@@ -61,15 +61,21 @@ const (
 	maxVerifyingThreads = C.PROVED_ARGON2_MAX_VERIFYING_THREADS
 )
 
+// check returns the error of a hash with these settings, if any. Call it before a salt or a tag is allocated, which may
+// be long.
+func (r run) check(password []byte, saltLength uint64) error {
+	settings := r.settings.c()
+	return errorOf(C.proved_argon2_check(&settings, C.uint64_t(len(password)), C.uint64_t(saltLength),
+		C.uint64_t(len(r.settings.Secret)), C.uint64_t(len(r.settings.Data))))
+}
+
 // compute returns the tag, or the encoded hash and then a zero.
 func (r run) compute(password, salt []byte, isEncoded bool) ([]byte, error) {
-	s, settings := r.settings, r.settings.c()
-	// Check first: no memory is allocated for a long tag of invalid settings.
-	err := errorOf(C.proved_argon2_check(&settings, C.uint64_t(len(password)), C.uint64_t(len(salt)),
-		C.uint64_t(len(s.Secret)), C.uint64_t(len(s.Data))))
+	err := r.check(password, uint64(len(salt)))
 	if err != nil {
 		return nil, err
 	}
+	s, settings := r.settings, r.settings.c()
 	length := uint64(s.HashLength)
 	if isEncoded {
 		length = uint64(C.proved_argon2_encoded_len(&settings, C.uint32_t(len(salt)))) + 1

@@ -33,7 +33,7 @@ const idle = 10 * time.Second
 // allocates its own memory, and frees it.
 type Hasher struct {
 	queue    *queue
-	settings Settings
+	settings *Settings // a pointer: package fmt would print a value for the verbs %w and %p, with the secret
 	limits   Limits
 }
 
@@ -47,13 +47,13 @@ func NewHasher(settings Settings, concurrency, waiting int) *Hasher {
 		callers = math.MaxInt
 	}
 	queue := &queue{callers: make(chan struct{}, callers), places: make(chan struct{}, concurrency), idle: idle}
-	return &Hasher{queue, settings, LimitsFor(settings)}
+	return &Hasher{queue, &settings, LimitsFor(settings)}
 }
 
 // With returns a Hasher with other settings, for example with the associated data of a user, and the limits for them.
 // It shares the queue and the buffers.
 func (h *Hasher) With(settings Settings) *Hasher {
-	return &Hasher{h.queue, settings, LimitsFor(settings)}
+	return &Hasher{h.queue, &settings, LimitsFor(settings)}
 }
 
 // Within returns a Hasher with other limits. It shares the queue and the buffers.
@@ -115,7 +115,7 @@ func enqueue[T any](ctx context.Context, h *Hasher, call func(run) (T, error)) (
 			}
 		}()
 	}
-	value, err = call(run{h.settings, h.limits, buffer, stop})
+	value, err = call(run{*h.settings, h.limits, buffer, stop})
 	if err == stopped && ctx.Err() != nil {
 		err = ctx.Err()
 	}

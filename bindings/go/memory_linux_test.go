@@ -2,6 +2,7 @@ package argon2
 
 import (
 	"fmt"
+	"math"
 	"os"
 	"runtime/debug"
 	"strings"
@@ -57,7 +58,14 @@ func TestDeniedMemoryIsAnError(t *testing.T) {
 	_, errs[2] = Verify(encoded, password)
 	_, errs[3] = h.Hash(ctx, password)
 	_, errs[4] = h.Verify(ctx, encoded, password)
+	// No salt is made for settings that are rejected: Go would end the process for lack of memory.
+	invalid := small(func(s *Settings) { s.Time, s.SaltLength = 0, math.MaxUint32 })
+	_, one := Hash(password, invalid)
+	_, two := VerifyUnknown(password, invalid)
 	must(0, syscall.Setrlimit(syscall.RLIMIT_AS, &before))
+	if one != ErrTimeTooSmall || two != ErrTimeTooSmall {
+		t.Error(one, two)
+	}
 	for i, err := range errs {
 		if err != ErrOutOfMemory {
 			t.Error(i, err)

@@ -8,11 +8,11 @@ import (
 // Pepper is a secret key with an ID. The ID is stored beside each hash, which does not contain the key.
 type Pepper struct {
 	ID  string
-	Key []byte `json:"-"`
+	Key []byte `json:"-" xml:"-"`
 }
 
-// Format prints the ID, and not the key. Package fmt does not call it for an unexported field of a struct, and then
-// prints the key. So keep only a pointer to a Pepper in such a field.
+// Format prints the ID, and not the key. Package fmt does not call it for an unexported field of a struct, or for the
+// verbs %w and %p, and then prints the key. So keep only a pointer to a Pepper in such a field.
 func (p Pepper) Format(state fmt.State, _ rune) { fmt.Fprintf(state, "{ID:%q}", p.ID) }
 
 // Stored is what you store for a user: an encoded hash, and the ID of its pepper, which is empty without a pepper.
@@ -23,8 +23,8 @@ type Stored struct {
 
 // Peppers hash with the newest pepper, and verify with the one that the stored hash names. See [NewPeppers].
 type Peppers struct {
-	hasher  *Hasher // has the newest pepper
-	peppers []Pepper
+	hasher  *Hasher   // has the newest pepper
+	peppers []*Pepper // pointers, as in a Hasher
 }
 
 // NewPeppers takes peppers, the newest first, and returns Peppers that use a Hasher's queue, settings and limits; the
@@ -34,27 +34,27 @@ type Peppers struct {
 // To change the pepper, put a new one first and keep the old ones. [Peppers.VerifyAndUpdate] renews a hash at the
 // user's next login. Once no hash has the ID of an old pepper, leave that out.
 func NewPeppers(hasher *Hasher, peppers ...Pepper) (*Peppers, error) {
-	seen, own := map[string]bool{"": true}, make([]Pepper, len(peppers))
+	seen, own := map[string]bool{"": true}, make([]*Pepper, len(peppers))
 	for i, pepper := range peppers {
 		if seen[pepper.ID] || len(pepper.Key) == 0 {
 			return nil, ErrInvalidPeppers
 		}
 		seen[pepper.ID] = true
-		own[i] = Pepper{pepper.ID, append([]byte(nil), pepper.Key...)}
+		own[i] = &Pepper{pepper.ID, append([]byte(nil), pepper.Key...)}
 	}
 	if len(peppers) == 0 {
 		return nil, ErrInvalidPeppers
 	}
-	newest := *hasher
-	newest.settings.Secret = own[0].Key
-	return &Peppers{&newest, own}, nil
+	settings := *hasher.settings
+	settings.Secret = own[0].Key
+	return &Peppers{&Hasher{hasher.queue, &settings, hasher.limits}, own}, nil
 }
 
 // AcceptUnpeppered returns the same peppers, which also verify hashes without a pepper (the ID is empty), and renew
 // these with the newest pepper. Use it only while you move such hashes: whoever can write to the store can add a
 // hash that needs no key.
 func (p *Peppers) AcceptUnpeppered() *Peppers {
-	return &Peppers{p.hasher, append(append([]Pepper(nil), p.peppers...), Pepper{})}
+	return &Peppers{p.hasher, append(append([]*Pepper(nil), p.peppers...), &Pepper{})}
 }
 
 // Hash hashes a password with the newest pepper.

@@ -29,7 +29,7 @@ type Settings struct {
 	Threads    uint32 // the most threads to fill the lanes; 0 means one per lane; verifying uses at most 16
 	SaltLength uint32 // in bytes
 	HashLength uint32 // in bytes
-	Secret     []byte `json:"-"` // a pepper, or nil; it is not copied
+	Secret     []byte `json:"-" xml:"-"` // a pepper, or nil; it is not copied
 	Data       []byte // associated data, or nil
 }
 
@@ -62,8 +62,8 @@ func preset(memory, time uint32) Settings {
 	return Settings{Variant: ID, Version: Version, Memory: memory, Time: time, Lanes: 1, SaltLength: 16, HashLength: 32}
 }
 
-// Format prints the settings without the secret and the data, whatever the verb is. As for a [Pepper], package fmt does
-// not call it for an unexported field of a struct.
+// Format prints the settings without the secret and the data, whatever the verb is, except %w and %p. As for a
+// [Pepper], package fmt does not call it for these, or for an unexported field of a struct.
 func (s Settings) Format(state fmt.State, _ rune) {
 	fmt.Fprintf(state, "{Variant:%d Version:%d Memory:%d Time:%d Lanes:%d Threads:%d SaltLength:%d HashLength:%d}",
 		s.Variant, s.Version, s.Memory, s.Time, s.Lanes, s.Threads, s.SaltLength, s.HashLength)

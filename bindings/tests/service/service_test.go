@@ -127,7 +127,7 @@ func TestService(t *testing.T) {
 		}()
 	}
 	group.Wait()
-	if status := post(context.Background(), "nobody", ""); status != 401 || processorTime()-used > cost {
+	if status := post(context.Background(), "nobody", ""); status != 401 || processorTime()-used > cost*3/2 {
 		t.Error("hashes of clients that left went on", status, processorTime()-used, cost)
 	}
 	before, end := peakKiB(), time.Now().Add(3*time.Second)
