@@ -70,7 +70,7 @@ public final class Argon2Exception extends RuntimeException {
 
     private static String messageOf(int number) {
         return switch (number) {
-            case BUSY -> "Too many hashes are computed at a time";
+            case BUSY -> "The queue has no place, no thread, or is closed";
             case UNKNOWN_PEPPER -> "There is no pepper with this ID";
             case INVALID_PEPPERS -> "There are no peppers, one is empty, or two have the same ID";
             case NOT_UNICODE -> "The password has half of a surrogate pair";
