@@ -131,14 +131,14 @@ fn there_are_never_more_buffers_than_places() {
 
 #[test]
 fn only_buffers_that_are_idle_for_long_enough_are_freed() {
-    let idle = Duration::from_millis(400);
+    let idle = Duration::from_secs(2);
     let line = Line::keeping(2, 0, idle);
     let mut other = line.wait().unwrap();
     hash_in(&line, 64);
     thread::sleep(idle / 2);
     other.run().hash_raw(b"password", b"somesalt", &small(32)).unwrap();
+    let begun = Instant::now(); // before the second buffer is idle
     drop(other);
-    let begun = Instant::now();
     while kept_by(&line).len() == 2 {
         assert!(begun.elapsed() < 50 * idle, "no buffer is freed");
         thread::yield_now();
