@@ -5,6 +5,8 @@ import (
 	"context"
 	"encoding/base64"
 	"encoding/hex"
+	"encoding/json"
+	"encoding/xml"
 	"fmt"
 	"math"
 	"os"
@@ -248,6 +250,14 @@ func TestNoSecretIsPrinted(t *testing.T) {
 			shown += fmt.Sprintf(verb+" "+verb, s, Pepper{"2026", s.Secret})
 		}
 		for _, secret := range []string{"hidden", "68696464656e", "104 105", "0x68, 0x69"} {
+			if strings.Contains(shown, secret) {
+				t.Error(shown)
+			}
+		}
+	}
+	for _, marshal := range []func(any) ([]byte, error){json.Marshal, xml.Marshal} {
+		shown := string(must(marshal(s))) + string(must(marshal(Pepper{"2026", s.Secret})))
+		for _, secret := range []string{"hidden", base64.StdEncoding.EncodeToString(s.Secret)} {
 			if strings.Contains(shown, secret) {
 				t.Error(shown)
 			}

@@ -352,6 +352,8 @@ class HashQueueTest {
         assertEquals(17 * processors, callsOf(HashQueue.of(settings, Long.MAX_VALUE)));
         assertEquals(17, callsOf(HashQueue.of(settings, 0)));
         assertEquals(17, callsOf(HashQueue.of(settings, (19456 << 10) * 2L - 1)));
+        int fitting = Math.min(2, processors); // a hash uses a multiple of 4 KiB for each lane
+        assertEquals(17 * fitting, callsOf(HashQueue.of(settings.withMemory(19459), (19456 << 10) * 2L)));
         assertEquals(17, callsOf(HashQueue.of(settings.withLanes(processors), Long.MAX_VALUE)));
     }
 
