@@ -101,7 +101,7 @@ mod tests {
 
     const MOST: u32 = 65536;
 
-    /// The memory and passes that are found if `measure` returns a hash's microseconds.
+    /// The memory and the passes that `search` finds. `measure` returns how many microseconds a hash takes.
     fn found(within: u64, mem_cost: u32, measure: fn(u64, u64) -> u64) -> Result<Option<(u32, u32)>> {
         let most = Config { mem_cost, ..Config::default() };
         let found = search(Duration::from_micros(within), &most, &|config| {
