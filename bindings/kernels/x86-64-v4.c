@@ -82,7 +82,7 @@ INLINED void mix(vector *a, vector *b, vector *c, vector *d)
 }
 
 /* Applies P to all rows. P turns b by one place, c by two and d by three, to make columns of the diagonals. Here all
- * four are turned by three places more, which leaves b where it is: a mix computes b last, so b would have to wait. */
+ * four are turned by three places more, so b stays in place: a mix computes b last, so turning b would have to wait. */
 INLINED void permute_rows(vector *a, vector *b, vector *c, vector *d)
 {
     mix(a, b, c, d);

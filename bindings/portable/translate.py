@@ -1,12 +1,12 @@
-"""Translates the proved code from WebAssembly to C, by wabt: every address becomes one of the C program's own memory.
+"""Translates the proved code from WebAssembly to C, by wabt. Each address becomes an address in the C program's memory.
 
     translate.py MODULE OTHER FILE
 
 wasm2c knows no memory with addresses of 64 bits, and gives a module a memory of its own, into which all would have to
 be copied. So each instruction that loads or stores becomes a call of a function of its name (module.h), and the module
-has no memory any more: wasm2c translates the rest as it is. Constants that are addresses of the module's own data are
-made relative to where these are. To find them, MODULE and OTHER are the same code linked with its data at two
-addresses; both must become the same C.
+has no memory any more: wasm2c translates the rest as it is. Constants that are addresses of the module's own data
+become offsets from the start of these data. To find such constants, MODULE and OTHER are the same code linked with its
+data at two addresses; both must become the same C.
 """
 import re
 import subprocess

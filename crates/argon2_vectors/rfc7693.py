@@ -1,4 +1,5 @@
-"""BLAKE2b in Python, after RFC 7693 line by line. Its words may be terms. `check` compares it with the RFC's hashes."""
+"""BLAKE2b in Python, after RFC 7693 line by line. Its words may be symbolic terms.
+`check` compares it with the RFC's hashes."""
 
 from rfc9106 import MASK, rotated, words_of
 

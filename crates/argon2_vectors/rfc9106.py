@@ -1,5 +1,5 @@
-"""Argon2 in Python, after RFC 9106 line by line, over BLAKE2b of hashlib. It gives answers that are not of
-this library: `check` holds it against the tags of the RFC's section 5."""
+"""Argon2 in Python, after RFC 9106 line by line, over BLAKE2b of hashlib. Its answers do not come
+from this library. `check` compares its tags with those of the RFC's section 5."""
 import hashlib
 
 MASK = (1 << 64) - 1

@@ -6,7 +6,8 @@ The questions are those of rows.txt, each a line with its answer behind a tab; t
 from BLAKE2b of hashlib, from rfc9106.py and around the default limits; and those of bindings/vectors. Its
 raw.txt has a line for each tag: variant, version, t, m, p, tag length, password, salt, secret and associated
 data (the last four in hexadecimal, - for empty), with single blanks between them, and behind the tenth blank
-the answer; the tool is asked too where the salt is no text. Its texts.txt has an encoded text, a tab, and the
+the answer; if the salt is not UTF-8 text, and secret and data are empty, the tool is
+asked too. Its texts.txt has an encoded text, a tab, and the
 verdict on it for the password `password`. Nothing here runs the library.
 """
 import base64
@@ -26,7 +27,8 @@ SPELLED = re.compile(
 # Byte number i is 7i + 3, modulo 251.
 MESSAGE = bytes((7 * i + 3) % 251 for i in range(300))
 INPUTS = "'password 'somesalt - -"
-# The tool's limits, the default ones: memory in KiB, passes, lanes, and memory times passes. And what it says of more.
+# The tool's limits, the default ones: memory in KiB, passes, lanes, and memory times passes.
+# ABOVE is its message above them.
 MEMORY, PASSES, LANES, WORK = 2097152, 10, 16, 4194304
 ABOVE = r"The encoded hash is above the limits\ncheck and new take at most " \
     r"2 GiB, 10 passes, 16 lanes and the work of 4 GiB in one pass\n"
@@ -48,7 +50,7 @@ def word(message):
 
 
 def hashes():
-    """BLAKE2b around the size of its blocks (128 bytes), in one piece and cut in two, and of fewer bytes."""
+    """BLAKE2b around the size of its blocks (128 bytes), in one piece and cut in two; and shorter hashes."""
     for length in (0, 1, 127, 128, 129, 255, 256, 257):
         message = MESSAGE[:length]
         answer = rfc9106.blake2b(64, message).hex()
@@ -61,7 +63,7 @@ def hashes():
 
 
 def stretched_hashes():
-    """H' to each number of pieces: the lengths of the pieces, and the pieces."""
+    """H' of several lengths: the question has the lengths of the pieces, and the answer the pieces."""
     for length in (1, 4, 32, 63, 64, 65, 96, 97, 128, 1024):
         pieces = rfc9106.hprime_pieces(length, MESSAGE)
         lengths = "+".join(str(len(piece)) for piece in pieces)

@@ -9,7 +9,7 @@
 #define IN_BUILD(build, name) NAMED_IN(build, name)
 #define NAMED_IN(build, name) proved_##build##_##name
 
-/* How a call returns: by a jump to the build, or by a return if it has to clear registers afterwards. */
+/* MADE jumps to the build, which returns to the caller. MADE_CLEARING returns here first, to clear registers. */
 #define MADE(...) MADE_BY(JUMP, __VA_ARGS__)
 #define MADE_CLEARING(...) MADE_BY(RETURN, __VA_ARGS__)
 #define JUMP(made) return made

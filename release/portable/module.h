@@ -1,5 +1,5 @@
-/* What the translated module stands on (module_code.h): numbers, and memory by address, whose bytes are in
- * WebAssembly's order on every machine. It is tested and not proved. */
+/* What the translated module (module_code.h) uses: numbers, and memory by address, whose bytes are in WebAssembly's
+ * order on every machine. It is tested and not proved. */
 #ifndef MODULE_H
 #define MODULE_H
 
@@ -31,7 +31,7 @@ static inline u32 I64_CTZ(u64 word)
     return zeros;
 }
 
-/* ---- memory: an address is that of the C program's own */
+/* ---- memory: addresses are those of the C program's own memory */
 
 #define ADDRESS(pointer) ((u64)(uintptr_t)(pointer))
 
@@ -69,7 +69,7 @@ static inline u64 swapped_u64(u64 word)
     return (u64)swapped_u32((u32)word) << 32 | swapped_u32((u32)(word >> 32));
 }
 
-/* A load instruction: the types of its result, of what is in memory, and of reading that. */
+/* A load instruction: the types of its result, of the word in memory, and to which that word is converted first. */
 #define LOAD(name, type, stored, read) \
     static inline type Z_memoryZ_##name(const void *none, u64 address, u64 offset) \
     { \

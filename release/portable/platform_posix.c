@@ -100,7 +100,7 @@ typedef struct member {
 } member;
 
 struct team {
-    pid_t *process;   /* the ID of the starting process; zero in a forked child, since that may have the same ID */
+    pid_t *process;   /* the ID of the starting process; zero in a forked child, whose own ID may be the same */
     uint32_t threads; /* beside the caller's */
     void (*run)(void *arg, team *own, uint32_t number);
     void *arg;

@@ -31,9 +31,10 @@
  *
  * Threads. Calls are thread-safe, as long as nothing writes to what a call is passed: an encoded hash that changes
  * while it is read may end the process. The only state of the library is which build it runs. Deferred cancellation
- * never ends a call. Asynchronous cancellation can end a proved call at any point, another call just before it returns
- * and, if that makes a salt, also once it has the salt. Calls are not async-signal-safe, so make none from a signal
- * handler. In the forked child of a process with threads, calls are safe if malloc is, as with the GNU C library.
+ * never ends a call. Asynchronous cancellation can end a proved call at any point. It can end any other call just
+ * before that call returns. It can also end a call that makes a salt right after the salt was made. Calls are not
+ * async-signal-safe, so make none from a signal handler. In the forked child of a process with threads, calls are safe
+ * if malloc is, as with the GNU C library.
  *
  * Symbols. Each symbol of the library begins with proved_, so that a program can link libargon2 too.
  */
@@ -57,7 +58,8 @@ extern "C" {
 #define PROVED_ARGON2_LIBRARY_VERSION "1.0.0"
 #define PROVED_ARGON2_LIBRARY_VERSION_NUMBER UINT32_C(1000000)
 
-/* The bytes of stack to provide for a call. A call of a native build uses less than half of them (tested). */
+/* The bytes of stack to provide for a call. A call uses less than half of them (tested), except in the library
+ * translated to C. */
 #define PROVED_ARGON2_STACK_SIZE 65536
 
 /* Limits (RFC 9106, 3.1; libargon2's MIN_SALT_LENGTH). Lengths in bytes, memory in KiB. */
@@ -73,7 +75,7 @@ extern "C" {
 #define PROVED_ARGON2_MIN_HASH_LENGTH UINT32_C(4)
 #define PROVED_ARGON2_MAX_HASH_LENGTH UINT32_C(0xFFFFFFFF)
 
-/* The variants (RFC 9106, 1). A new block is computed from an earlier one, which they select by: */
+/* The variants (RFC 9106, 1). They differ in what selects the earlier block that a new block is computed from: */
 enum proved_argon2_variant {
     PROVED_ARGON2_D = 0, /* the blocks, and so the password */
     PROVED_ARGON2_I = 1, /* only the block's position */
@@ -229,10 +231,10 @@ uint32_t proved_argon2_verify_raw(
  * Verifies a password against an encoded hash, with this secret and this associated data. As above, it returns
  * PROVED_ARGON2_OK only if the password matches, and PROVED_ARGON2_MISMATCH only if it does not.
  *
- * text_len is the length of the string without its terminating zero. For a string with a byte above 127 the call
- * returns PROVED_ARGON2_NOT_ASCII, and PROVED_ARGON2_DECODING_FAIL for any other that is not an encoded hash. Then it
- * checks the settings, before it allocates memory. It uses the memory and the passes that the encoded hash names, up to
- * 4 TiB and 2^32 - 1: for a hash that others may have written, use proved_argon2_verify_encoded_within.
+ * text_len is the length of the string without its terminating zero. The call returns PROVED_ARGON2_NOT_ASCII for a
+ * string with a byte above 127, and PROVED_ARGON2_DECODING_FAIL for any other string that is not an encoded hash. Then
+ * it checks the settings, before it allocates memory. It uses the memory and the passes that the encoded hash names, up
+ * to 4 TiB and 2^32 - 1: for a hash that others may have written, use proved_argon2_verify_encoded_within.
  */
 PROVED_ARGON2_CHECKED
 uint32_t proved_argon2_verify_encoded(
@@ -291,9 +293,9 @@ uint32_t proved_argon2_needs_rehash(
     const char *text, size_t text_len, const proved_argon2_settings *settings);
 
 /*
- * Whether a hash with these settings can be made from inputs of these lengths. If a call that hashes such inputs would
- * reject them or the settings, it returns the error of that call, and otherwise PROVED_ARGON2_OK. It does not check
- * buffers or memory, computes nothing, and is passed no input.
+ * Whether a hash with these settings can be made from inputs of these lengths. It returns the error that hashing
+ * such inputs would return for a length or a setting, and otherwise PROVED_ARGON2_OK. It does not check buffers or
+ * memory, computes nothing, and is passed no input.
  */
 PROVED_ARGON2_CHECKED
 uint32_t proved_argon2_check(
@@ -301,7 +303,7 @@ uint32_t proved_argon2_check(
 
 /*
  * The same for a call that verifies an encoded hash within limits, with inputs of these lengths. It decodes into
- * stored as proved_argon2_read_within does, and that call's errors come first.
+ * stored as proved_argon2_read_within does. The errors of proved_argon2_read_within come first.
  */
 PROVED_ARGON2_CHECKED
 uint32_t proved_argon2_check_encoded(

@@ -56,7 +56,7 @@ uint32_t proved_argon2_hash_encoded_with(const options *with, INPUTS, char *text
     if (code != PROVED_ARGON2_OK) {
         goto end;
     }
-    memset(text, 0, text_len); /* (the proof assumes initialized memory, and this call does not fail) */
+    memset(text, 0, text_len); /* (the proof of encode assumes initialized memory, and encode does not fail here) */
     code = proved_argon2_encode(salt, salt_len, settings, call.bytes, call.len, text, text_len);
 end:
     return proved_driver_end_call(&call, code);
@@ -103,8 +103,8 @@ static bool are_same(const proved_argon2_settings *one, const proved_argon2_sett
         && one->time_cost == other->time_cost && one->lanes == other->lanes && one->hash_length == other->hash_length;
 }
 
-/* Reads the job of an encoded hash. The call's bytes then have its tag, room for the computed tag, and its salt. The
- * encoded hash is checked first, so that a rejected one costs no memory. */
+/* Reads the job of an encoded hash. The call's bytes then contain the stored tag, room for the computed tag, and the
+ * salt. The encoded hash is checked first, so that a rejected one costs no memory. */
 static uint32_t read_text(struct call *call, STORED)
 {
     static const proved_argon2_limits none = {UINT32_MAX, UINT32_MAX, UINT32_MAX, UINT64_MAX};
@@ -143,7 +143,7 @@ uint32_t proved_argon2_verify_encoded_with(const options *with, STORED)
         goto end;
     }
     code = proved_driver_compute(&call, call.bytes, call.bytes + call.job.hash_length);
-    /* (In this order no branch depends on the verdict, unless the caller asked whether a rehash is due.) */
+    /* (is_rehash_due comes first: so no branch depends on the verdict, unless the caller asked about a rehash.) */
     if (call.is_rehash_due && code == PROVED_ARGON2_OK) {
         code = PROVED_ARGON2_NEEDS_REHASH;
     }
@@ -169,7 +169,7 @@ static CLEARS_REGISTERS void take_job(struct call *call, const proved_argon2_job
     call->job = *job;
 }
 
-/* Computes the tag of a job or, with a hash, returns whether that is the tag. */
+/* Computes the tag of a job. If hash is not null, returns whether hash equals the tag. */
 static uint32_t run(const options *with, const proved_argon2_job *job, const uint8_t *hash, uint8_t *tag, size_t len)
 {
     struct call call;

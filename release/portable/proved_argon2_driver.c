@@ -50,8 +50,8 @@ void proved_argon2_memory_free(void *memory, size_t memory_len)
     proved_driver_restore_caller(saved);
 }
 
-/* Whether these are the options of this version, or those of a later one whose further fields are all zero, so that the
- * caller wants nothing that is unknown here. No version has shorter options, and we would read past their end. */
+/* Whether these are the options of this version, or longer ones of a later version whose further fields are all zero:
+ * then the caller wants nothing that is unknown here. Shorter options are invalid, and we would read past their end. */
 static bool are_known(const options *with)
 {
     const uint8_t *const bytes = (const uint8_t *)with;
@@ -88,8 +88,8 @@ uint32_t proved_driver_take_bytes(struct call *call, uint64_t len)
     return call->bytes == NULL ? PROVED_ARGON2_OUT_OF_MEMORY : PROVED_ARGON2_OK;
 }
 
-/* When the loader binds a name late, it may save registers on the stack, with parts of blocks. This clears them; the
- * proved calls clear the stack below them. */
+/* When the loader binds a name late, it may save registers with parts of blocks on the stack. This function clears that
+ * stack. The proved calls clear the stack that they use. */
 static __attribute__((noinline)) void clear_stack(void)
 {
     unsigned char below[STACK_BELOW];
@@ -193,8 +193,9 @@ static uint32_t worker_before(const struct call *call, uint32_t number)
     return (number == 0 ? call->tasks : number) - 1;
 }
 
-/* Takes a step for a worker and then for those before it, until one has been claimed by another thread, which goes on
- * from there. Takes at most `own` of them, or all if parts are short. Returns how many it took. Moves: Leaves. */
+/* Takes a step for worker `number`, and then for the workers before it. Stops at a part that another thread claimed,
+ * since that thread goes on from there. Takes at most `own` parts, or all if parts are short. Returns how many it took.
+ * Moves: Leaves. */
 static uint32_t take_parts(struct call *call, uint64_t step, uint32_t number, uint32_t own)
 {
     const uint32_t most = are_parts_short(call) ? call->tasks : own;
@@ -242,7 +243,7 @@ static void run_team(struct call *call)
     }
 }
 
-/* Has each worker take a step once, and reports how many slices are filled. */
+/* Makes each worker take the step once, and tells the progress callback how many slices are filled. */
 static uint32_t run_step(struct call *call, uint64_t slices)
 {
     const options *const with = &call->with;

@@ -11,7 +11,7 @@
  *     for each pass from 0 to job.passes - 1, for each slice from 0 to 3, for each lane: proved_argon2_job_fill
  *     proved_argon2_job_finish or proved_argon2_job_verify
  *
- * Lanes may be begun, and the lanes of one slice filled, in any order or at the same time. Begin all lanes before the
+ * You may begin lanes, and fill the lanes of one slice, in any order or at the same time. Begin all lanes before the
  * first slice, and complete each slice before the next. If each step returned PROVED_ARGON2_OK,
  * proved_argon2_job_finish writes the tag of RFC 9106, and proved_argon2_job_verify returns whether the hash is that
  * tag. The theorems EveryRunGivesTheTag and EveryRunGivesTheVerdict prove this for any order of a slice's lanes. It
@@ -73,8 +73,8 @@ uint32_t proved_argon2_job_make(
     proved_argon2_job *job);
 
 /*
- * Checks an encoded hash as proved_argon2_verify_encoded does, and writes the job that verifies it, its salt and its
- * hash. proved_argon2_read reports the lengths of salt and hash. For any other length the call returns
+ * Checks an encoded hash as proved_argon2_verify_encoded does, and writes its salt, its hash and the job that verifies
+ * it. proved_argon2_read reports the lengths of salt and hash. For any other length the call returns
  * PROVED_ARGON2_WRONG_LENGTH, after all other errors of the encoded hash.
  */
 PROVED_ARGON2_CHECKED
@@ -170,9 +170,9 @@ uint32_t proved_argon2_verify_over(
     uint8_t *tag, size_t tag_len);
 
 /*
- * Writes the encoded hash of a given tag as proved_argon2_hash_encoded does. It checks the settings as that call does,
- * but not the lengths of the other inputs. If tag_len is not settings->hash_length, it returns
- * PROVED_ARGON2_WRONG_LENGTH too.
+ * Writes the encoded hash of a given tag as proved_argon2_hash_encoded does. It checks the settings and the salt's
+ * length as that call does, but no length of a password, a secret or associated data. If tag_len is not
+ * settings->hash_length, it returns PROVED_ARGON2_WRONG_LENGTH too.
  */
 PROVED_ARGON2_CHECKED
 uint32_t proved_argon2_encode(

@@ -6,7 +6,7 @@
 #include "builds.h"
 #include "driver.h"
 
-/* Replaces a null pointer by an address of no bytes, since proved calls take no null pointers. */
+/* Replaces a pointer to no bytes, which may be null, by a valid one: proved calls take no null pointers. */
 static inline void *some(const void *at, size_t len)
 {
     static const uint64_t none;

@@ -1,5 +1,5 @@
 /* A table of the proved calls: for each its name, its parameters, whether a pointer is missing, and the arguments that
- * are passed on. proved_argon2_table.c makes each call in a build; bindings/portable makes it in the module
+ * are passed on. proved_argon2_table.c passes each call to a build; bindings/portable passes it to the module
  * translated to C. COMPUTES marks a call that writes H0, or that uses blocks, which may be misaligned. The table is
  * tested, not proved. */
 #define SLICE(type, name) type *name, size_t name##_len

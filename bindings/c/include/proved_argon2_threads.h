@@ -3,8 +3,8 @@
  * or with a progress callback. A job can be run with options too. proved_argon2.h includes this header.
  *
  * These calls are C code that is tested, not proved, around the proved calls (proved_argon2_jobs.h). Each returns what
- * the call without _with returns. If memory cannot be allocated, it returns PROVED_ARGON2_OUT_OF_MEMORY. If the system
- * denies a thread, the other threads do its work.
+ * the call without _with returns, unless an option changes that. If memory cannot be allocated, it returns
+ * PROVED_ARGON2_OUT_OF_MEMORY. If the system denies a thread, the other threads do its work.
  *
  * Before a call returns, whatever it returns, it clears what depends on secrets. The blocks are overwritten, or
  * returned to the system, which clears them. H0, the stack that the calls used, and any tag computed for a comparison
@@ -29,9 +29,9 @@ extern "C" {
 typedef int proved_argon2_run(void *pool, uint32_t tasks, void (*task)(void *arg, uint32_t i), void *arg);
 
 /*
- * The progress callback. The calling thread calls it after each slice with the counts of filled slices (done, from 1)
- * and of all. If it returns anything but 0, the call stops and returns PROVED_ARGON2_STOPPED. It must return, and not
- * leave by longjmp or an exception.
+ * The progress callback. The calling thread calls it after each slice: done is the number of filled slices, from 1
+ * on, and all is the number of all slices. If it returns anything but 0, the call stops and returns
+ * PROVED_ARGON2_STOPPED. It must return, and not leave by longjmp or an exception.
  */
 typedef int proved_argon2_progress(void *arg, uint64_t done, uint64_t all);
 
@@ -133,10 +133,11 @@ uint32_t proved_argon2_job_run_verify(
     const proved_argon2_options *options, const proved_argon2_job *job, const uint8_t *hash, size_t hash_len);
 
 /*
- * proved_argon2_password_hash and proved_argon2_password_verify with settings, a pepper and options. The pepper is one
- * secret for all hashes, contained in none; pass null and 0 for none. If the options have no limits, no encoded hash is
- * too costly: the default limits do not apply. text has PROVED_ARGON2_TEXT_SIZE bytes; for settings whose encoded hash
- * does not fit, the call returns PROVED_ARGON2_WRONG_LENGTH.
+ * proved_argon2_password_hash and proved_argon2_password_verify with a pepper and options; the first call also with
+ * settings. The pepper is one secret for all hashes, and no hash contains it. Pass null and 0 if you have no pepper. If
+ * the options have no limits, no encoded hash is too costly: the default limits do not apply. The first call writes
+ * PROVED_ARGON2_TEXT_SIZE bytes to text. For settings whose encoded hash does not fit, it returns
+ * PROVED_ARGON2_WRONG_LENGTH.
  */
 PROVED_ARGON2_CHECKED
 uint32_t proved_argon2_password_hash_with(

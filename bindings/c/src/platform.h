@@ -40,7 +40,7 @@ void *proved_driver_map_pages(size_t bytes);
 /* Returns pages to the system, which clears them. */
 void proved_driver_unmap_pages(void *pages, size_t bytes);
 
-/* Has the system allocate a part of these pages at once, if it can. Returns false if it denies them. */
+/* Makes the system allocate this part of the pages now, if it can. Returns false if the system denies them. */
 bool proved_driver_populate_pages(void *pages, size_t bytes);
 
 /* Reads random bytes from the system. Returns whether there were enough. */

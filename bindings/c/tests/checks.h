@@ -1,5 +1,5 @@
-/* Shared by the tests in C: a check prints its name and whether it passed; at its end a program says how many are
- * required. */
+/* Shared by the tests in C: a check prints its name and whether it passed; at its end a program passes to finish() how
+ * many are required. */
 #ifndef CHECKS_H
 #define CHECKS_H
 
@@ -16,12 +16,12 @@ static bool is_finished;
 static inline void check(bool holds, const char *name)
 {
     printf("%s: %s\n", holds ? "passed" : "FAILED", name);
-    fflush(stdout); /* (the last line tells where a program ended that was stopped) */
+    fflush(stdout); /* (if a program is stopped, the last line tells where) */
     checks_made++;
     checks_failed += !holds;
 }
 
-/* A program's status at its end: 0 where it has made so many checks, and all of them passed. */
+/* A program's status at its end: 0 if it made `count` checks, and all of them passed. */
 static inline int finish(int count)
 {
     is_finished = true;

@@ -6,14 +6,14 @@
  *     clearing            all checks
  *     clearing unwiped    the same with clearing turned off: each check must find something
  *     clearing late       all calls, after which a name is bound late (the program must be linked for that)
- *     clearing few        only calls that complete, without those of a password alone, since all take too long
+ *     clearing few        only calls that complete, without the three password calls, since all take too long
  *     clearing unwiped few
  */
 #include "search.h"
 
 enum { NAMES = 14, OF_UNKNOWN = 13, WITH = 6, PLAIN = 11, MEMORIES = 3 };
 
-/* The calls with options, those with none, and those of a password alone. */
+/* The calls with options, those with none, the two of a password alone, and the one for an unknown user. */
 static const char *const names[NAMES] = {"hash_raw_with", "hash_encoded_with", "job_run", "verify_raw_with",
     "verify_encoded_with", "job_run_verify", "hash_raw", "hash_encoded", "verify_raw", "verify_encoded",
     "verify_encoded_within", "password_hash", "password_verify", "password_verify_unknown"};
@@ -126,7 +126,7 @@ static struct trial over(size_t memory, uint32_t threads)
     return trial;
 }
 
-/* How many of these a call can use: without options it cannot use the caller's. */
+/* How many of these memories a call can use: without options it cannot use the caller's memory. */
 static size_t memories_of(size_t name)
 {
     return name < WITH ? MEMORIES : name < PLAIN ? 2 : 1;
@@ -429,7 +429,7 @@ static void check_late(size_t name)
 
 /* ---- out of core dumps */
 
-/* Whether the system has noted to keep what remains of the last mapping out of core dumps. */
+/* Whether the system marks what remains of the last mapping as left out of core dumps. */
 static bool is_left_out_of_dumps(void)
 {
     FILE *const maps = fopen("/proc/self/smaps", "r");

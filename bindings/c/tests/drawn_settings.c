@@ -71,8 +71,9 @@ static size_t length_of(const proved_argon2_settings *of)
     return of->mem_cost / (4 * of->lanes);
 }
 
-/* How many blocks are compressed: the matrix in each pass, without each lane's first two in the first pass; and two per
- * 128 pseudorandom numbers that depend on no block, in each segment (RFC 9106, 3.4.1.2) that has other blocks. */
+/* How many blocks are compressed: the matrix in each pass, without each lane's first two in the first pass. A segment
+ * whose references depend on no block (RFC 9106, 3.4.1.2) adds two per 128 pseudorandom numbers, unless it has only
+ * those first two. */
 static size_t blocks_of(const proved_argon2_settings *of)
 {
     const size_t all = 4 * of->lanes * length_of(of),

@@ -77,7 +77,7 @@ static uint32_t memory_free(void)
     return code;
 }
 
-/* Frees a new buffer; outputs are checked only if there is none. */
+/* Frees the new buffer, if there is one. Outputs are checked only if the call fails. */
 static uint32_t memory_new(void)
 {
     const uint32_t code = proved_argon2_memory_new(

@@ -145,7 +145,7 @@ static void check_limits_of_settings(void)
     check_code(error_of(request), PROVED_ARGON2_WRONG_LENGTH, "the longest hash");
 }
 
-/* With a length at its limit, the next check fails. */
+/* If a length is at its limit, the call returns the error of the next check. */
 static void check_limits_of_inputs(void)
 {
     struct request request = {small, (size_t)PROVED_ARGON2_MAX_PWD_LENGTH + 1, 8, 0, 0};

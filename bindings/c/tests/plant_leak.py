@@ -43,7 +43,7 @@ LEAKS = {
     'table_of_letters': {'proved_argon2_encode': """
         test %r8, %r8; je original
         movzbl (%rcx), %eax; lea rest(%rip), %r10; movzbl (%r10, %rax), %eax; movb %al, -8(%rsp)"""},
-    # as before, and divides by what it has of the tag
+    # the same arguments; divides by a byte of the tag, plus one
     'division_by_a_byte': {'proved_argon2_encode': """
         test %r8, %r8; je original
         push %rdx; push %rcx

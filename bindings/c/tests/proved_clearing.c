@@ -1,8 +1,8 @@
 /*
  * Which secrets the proved calls leave in caller-provided memory, which the caller clears, and what they overwrite: see
  * SECURITY.md. Each call runs in a child, which has no secrets before. clearing.c tests the driver's calls, and
- * test_library.py compares the calls that are named in both with those of the headers. It is linked with --wrap for
- * what it looks at.
+ * test_library.py compares the calls that are named in both with those of the headers. This program is linked
+ * with --wrap for what it looks at.
  *
  *     proved_clearing            all checks
  *     proved_clearing unwiped    with a library that overwrites nothing: each check of overwriting must find something

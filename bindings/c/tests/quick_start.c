@@ -52,7 +52,7 @@ static bool begin_worker(struct worker *worker)
         == PROVED_ARGON2_OK;
 }
 
-/* What a login returns. `stored` is NULL if there is no such user: the call takes as long, and never matches. */
+/* What a login returns. `stored` is NULL for unknown users: the call takes as long as usual, and never matches. */
 static uint32_t log_in(struct worker *worker, const char *stored, const char *password, size_t length)
 {
     return stored == NULL

@@ -39,7 +39,7 @@ static const struct call calls[CALLS] = {
 #define BYTES(call, what) (call).what, (call).what##_len
 #define INPUTS_OF(call) BYTES(call, pwd), BYTES(call, salt), BYTES(call, secret), BYTES(call, ad), &(call).settings
 
-/* A call's tag, its encoded hash, one of zeros, and the pieces, XORed with MASK, so that they are not found here. */
+/* A call's tag, its encoded hash, that of a tag of zeros, and the pieces, which MASK hides from the search here. */
 typedef struct known {
     uint8_t tag[TAG];
     char text[TEXT], other[TEXT];
@@ -61,8 +61,8 @@ static inline void keep(known *to, enum kind kind, const void *bytes)
     to->parts[to->count++].kind = kind;
 }
 
-/* For the last lane's first two blocks, chains of hashes: part of the last hash, and of the one before, whose first
- * half is in the block. */
+/* Keeps parts of the hash chains of the last lane's first two blocks: of the last hash, and of the hash before it,
+ * whose first half is in the block. */
 static inline void keep_chains(const proved_argon2_block *first, known *to)
 {
     for (size_t column = 0; column < 2; column++) {
@@ -230,7 +230,7 @@ static inline void look_everywhere(void)
     }
 }
 
-/* What a program calls after a call, if anything: bound late, it makes the loader save the registers. */
+/* What a program calls after a call, if anything. If its name is bound late, the loader saves the registers. */
 static void (*calls_behind)(void);
 
 /* The contents, after a call, of other registers that it may change. */

@@ -47,7 +47,7 @@ OF_SYSTEM = set("""_GLOBAL_OFFSET_TABLE_ __errno_location __stack_chk_fail align
     pthread_attr_setguardsize pthread_attr_setstacksize pthread_create pthread_join pthread_setcancelstate
     pthread_sigmask secure_getenv sem_destroy sem_init sem_post sem_wait sigfillset strcmp strlen sysconf""".split())
 # The features that x86-64-v2 and x86-64-v3 need, except what an older qemu or glibc needs itself: the driver's names
-# and qemu's. Then x86-64-v4's, and qemu's processors without one of the former.
+# and qemu's. Then x86-64-v4's, and qemu's processors that lack one feature of the first two.
 OF_V2 = dict(CX16='cx16', SSE4_2='sse4.2', POPCNT='popcnt', LAHF_LM='lahf-lm')
 OF_V3 = dict(FMA='fma', MOVBE='movbe', bit_OSXSAVE='xsave', AVX='avx', F16C='f16c', BMI1='bmi1', AVX2='avx2',
              BMI2='bmi2', ABM='abm')
@@ -108,7 +108,7 @@ def name_of(argument):
 
 @pytest.mark.parametrize('compiler', ['gcc', 'clang'])
 @pytest.mark.parametrize('call', sorted({*calls()} - {'memory_free'}))
-def test_looks_at_the_result(compiler, call, tmp_path):
+def test_an_ignored_result_is_a_warning(compiler, call, tmp_path):
     given = calls()[call]
     variables = ''.join(f'static {argument};\n' for argument in given)
     made = f'proved_argon2_{call}({", ".join(map(name_of, given))})'

@@ -3,7 +3,8 @@
  * pool, options and limits. starts.c tests threads, memory.c memory, and clearing.c what is left in the process.
  *
  *     threads          all checks
- *     threads few      for valgrind's tools: a few tags, and eight hashes at once over pools whose threads stay
+ *     threads few      for valgrind's tools: address space, a few tags, and eight hashes at once over pools whose
+ *                      threads stay
  */
 #include "calls.h"
 #include "system.h"

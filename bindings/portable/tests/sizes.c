@@ -1,5 +1,5 @@
-/* Asks for about 4 GiB, all that addresses of 32 bits reach. A call that returns memory returns all of it, and one that
- * needs more than there are addresses returns none. It is linked with --wrap=proved_argon2_check_encoded. */
+/* Asks for 2 GiB up to 4 TiB; addresses of 32 bits reach 4 GiB. A call that returns memory returns all of it, and one
+ * that needs more than there are addresses returns none. It is linked with --wrap=proved_argon2_check_encoded. */
 #include "proved_argon2.h"
 
 #include <stdio.h>

@@ -109,7 +109,7 @@ stored_verdict v d pwd secret ad used config workers answer same used_is is verd
 
 -- ---- answers before the tag is asked for
 
--- any value of the string is the one with the salt and the hash behind its head
+-- any value that the string decodes to consists of its head and the salt and hash that the head's items encode
 pub spelled_at : (text : List ℕ) (h : Head) (d : Spelled) → (s : IsSpellingOf text h) → Spells text d → d ≡ spelled_with h s.0 s.1
 spelled_at text h d (salt, hash, is) s = spells_one text d (spelled_with h salt hash) s is.spells
 
@@ -154,7 +154,7 @@ pub head_accepted : (text : List ℕ) (h : Head) (pwd_len : ℕ) (secret ad : Li
 head_accepted text h pwd_len secret ad refusal d config told s none spells stored =
     rw (sym (error_told text h pwd_len secret ad refusal d config told s spells stored), none) (spelled_again text h d s spells)
 
--- what is rejected without memory is rejected with memory
+-- an error of a call that allocates nothing is also an error of a call that may allocate
 pub refused_too : {A B : Type 0} (refusal : Option Error) (P : A → Type 0) (Q : B → Type 0) (e : Error) → IsAccepting refusal P (Err e)
     → IsOutcome refusal false Q (Err e)
 refused_too None P Q e h = absurd h
@@ -259,7 +259,7 @@ leaves_of_length pwd salt hash config workers before after answer none filled le
     leaves_accepted pwd salt config (length hash) workers before after answer none (subst (λ s. OnOk answer (HoldsFill s after)) same filled)
     (subst (λ s. OnErr answer (IsLeft workers s before after)) same left)
 
--- the setting is that of the fields that a string decodes to, of the secret and of the data
+-- configurations with equal variant, version, lanes, costs, secret and associated data have the same setting
 pub setting_of-same : (x y : Config) (pwd salt : List ℕ) (len : ℕ) → x.variant ≡ y.variant → x.version ≡ y.version → x.lanes ≡ y.lanes
     → x.mem_cost ≡ y.mem_cost → x.time_cost ≡ y.time_cost → x.secret.now ≡ y.secret.now → x.ad.now ≡ y.ad.now
     → setting_of pwd salt x len ≡ setting_of pwd salt y len
@@ -267,7 +267,8 @@ unfolding setting_of prehash_of
 setting_of-same x y pwd salt len variant version lanes mem_cost time_cost secret ad =
     rw (variant, version, lanes, mem_cost, time_cost, secret, ad) refl
 
--- the configuration used for a decoded value leaves what the value's own would, with its workers
+-- a call with the configuration used for a decoded value leaves in the memory what one with the value's own would,
+-- with the value's workers
 pub stored_leaves : (v d : Spelled) (pwd secret ad : List ℕ) (used config : Config) (workers : Spelled → Bool) (before after : MemoryValue)
     (answer : Result Bool Error) → v ≡ d
     → IsConfigOf v secret ad used → IsStoredConfig d secret ad config → IsAccepted v (length pwd) secret ad

@@ -102,7 +102,7 @@ marks_none : (text : List ℕ) → Lacks 36 text → marks text ≡ 0
 marks_none [] lacks = refl
 marks_none (b ∷ text) lacks = rw (sum_by-cons (λ x. cond (x == 36) 1 0) b text, ne_eqb b 36 lacks.0, zero-add) (marks_none text lacks.1)
 
--- four `$` plus a version part's are four or five, if its number has none
+-- four `$` plus those of a version part are four or five, if the version's number has none
 version_marks : (version : Option (List ℕ)) → IfSome version (Lacks 36) → (4 + marks (version_part version) ≡ 4) ⊎ (4 + marks (version_part version) ≡ 5)
 version_marks None lacks = inl refl
 version_marks (Some number) lacks =
@@ -199,7 +199,7 @@ spells_own_value d fits = record {
 
 -- ---- the same in other words
 
--- three items joined by `,` and a rest behind are the items, each `,` and the rest in a row
+-- appending a rest to three items joined by `,` gives the items, each `,` and the rest, appended one by one
 costs-joined : (m t p rest : List ℕ) → join_with_byte 44 (m ∷ t ∷ p ∷ []) ++ rest ≡ m ++ 44 ∷ (t ++ 44 ∷ (p ++ rest))
 costs-joined m t p rest = rw (append_assoc m (44 ∷ (t ++ 44 ∷ p)) rest, append_assoc t (44 ∷ p) rest) refl
 

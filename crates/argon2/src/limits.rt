@@ -39,7 +39,8 @@ pub struct Limits {
 }
 
 impl Limits {
-    /// Whether so much memory in KiB, so many passes or so many lanes are above a limit.
+    /// Whether this much memory in KiB, this many passes or lanes, or the product of memory and
+    /// passes exceeds a limit.
     pub fn are_exceeded_by(&self, mem_cost: u32, time_cost: u32, lanes: u32) -> bool
         ensures { result ≡ are_exceeded self.now mem_cost time_cost lanes }
     {

@@ -61,7 +61,7 @@ fn is_hash(mut tag: Vec<u8>, hash: &[u8]) -> bool
 }
 
 /// The context for hashes of this hash's length, whatever `config.hash_length` is. The length is
-/// checked in 64 bits: cut to 32 bits, that of a longer hash could pass.
+/// checked in 64 bits: if it were cut to 32 bits, the length of too long a hash could pass.
 #[tactic(auto, unfolding(argon2_standard::specs::Standard::SettingsTable::table_error))]
 pub fn context_of_hash<'a>(
     config: Config<'a>,
@@ -93,8 +93,8 @@ pub fn context_of_hash<'a>(
     }
 }
 
-/// Whether a hash is the tag of an accepted call of its length, computed in a buffer, in the thread
-/// mode of the configuration.
+/// Whether a hash is the tag of an accepted call with the hash's length. The tag is computed in a
+/// buffer, in the thread mode of the configuration.
 fn is_tag<R: Threads + Wait + Sync>(
     rt: &R,
     alloc: Global,
@@ -113,8 +113,8 @@ fn is_tag<R: Threads + Wait + Sync>(
     Ok(is_hash(tag, hash))
 }
 
-/// Whether a hash is the tag of an accepted call of its length, computed in a buffer, in the
-/// caller's thread.
+/// Whether a hash is the tag of an accepted call with the hash's length. The tag is computed in a
+/// buffer, in the caller's thread.
 fn is_tag_sequential(
     alloc: Global,
     memory: &mut Memory,

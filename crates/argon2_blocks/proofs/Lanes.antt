@@ -54,7 +54,7 @@ all_lanes (suc n) (x ∷ xs) (y ∷ ys) h k = cons_same _ _ _ _ (one_lane x y) (
 
 -- ---- lists of a known length, element by element
 
--- what holds of the list of all elements holds of the list
+-- what holds of the list that is picked element by element from xs holds of xs
 pub by_elements : {A : Type 0} (d : A) (n : ℕ) (P : List A → Type 0) (xs : List A) → length xs ≡ n → P (pick_l d xs (range_with_len 0 n)) → P xs
 by_elements d n P xs l p = subst P (pick_l_whole d xs n l) p
 
@@ -66,7 +66,7 @@ each_of_4 P p0 p1 p2 p3 (suc (suc zero)) h = p2
 each_of_4 P p0 p1 p2 p3 (suc (suc (suc zero))) h = p3
 each_of_4 P p0 p1 p2 p3 (suc (suc (suc (suc i)))) h = absurd (omega arith)
 
--- what holds below n, and from n on below 2 * n
+-- what holds of each number below n, and of each such number plus n, holds of each number below 2 * n
 by_halves : (P : ℕ → Type 0) (n : ℕ) → ((i : ℕ) → i < n → P i) → ((i : ℕ) → i < n → P (i + n)) → (i : ℕ) → i < n + n → P i
 by_halves P n low high i h =
     elim (leb_tells (suc i) n) [
@@ -110,7 +110,7 @@ turn r m x low up fits = ap (λ v. bit_or (x / 2 ^ r) v) up ∙ or_shifted_r low
 turn32 : (x : ℕ) → x < 2 ^ 64 → rotate_right w64 x 32 ≡ (x % 2 ^ 32) * 2 ^ 32 + x / 2 ^ 32
 turn32 x h = turn 32 32 x (x % 2 ^ 32) (omega arith) (omega arith)
 
--- a turn by 32 bits and one by 56 are one by 24
+-- a rotation by 32 bits and then a rotation by 56 bits are a rotation by 24 bits
 pub turns24 : (x : ℕ) → x < 2 ^ 64 → rotate_right w64 (rotate_right w64 x 32) 56 ≡ rotate_right w64 x 24
 turns24 x h =
     let y = (x % 2 ^ 32) * 2 ^ 32 + x / 2 ^ 32 in
@@ -118,7 +118,7 @@ turns24 x h =
     ap (λ v. rotate_right w64 v 56) (turn32 x h)
     ∙ (turn 56 8 y (y % 2 ^ 56) (omega arith) (omega arith) ∙ (e ∙ sym (turn 24 40 x (x % 2 ^ 24) (omega arith) (omega arith))))
 
--- a turn by 32 bits and one by 48 are one by 16
+-- a rotation by 32 bits and then a rotation by 48 bits are a rotation by 16 bits
 pub turns16 : (x : ℕ) → x < 2 ^ 64 → rotate_right w64 (rotate_right w64 x 32) 48 ≡ rotate_right w64 x 16
 turns16 x h =
     let y = (x % 2 ^ 32) * 2 ^ 32 + x / 2 ^ 32 in
@@ -126,7 +126,7 @@ turns16 x h =
     ap (λ v. rotate_right w64 v 48) (turn32 x h)
     ∙ (turn 48 16 y (y % 2 ^ 48) (omega arith) (omega arith) ∙ (e ∙ sym (turn 16 48 x (x % 2 ^ 16) (omega arith) (omega arith))))
 
--- if a turn by 32 bits and another equal one turn of a word, they do in each lane
+-- if rotations of a word by 32 bits and by `next` bits equal one rotation by `all` bits, they do in each lane
 pub by_two : (next all : ℕ) → ((x : ℕ) → x < 2 ^ 64 → rotate_right w64 (rotate_right w64 x 32) next ≡ rotate_right w64 x all) →
     (xs ys zs : List ℕ) → Each1 (λ a. a < 2 ^ 64) xs → ys ≡ map (λ x. rotate_right w64 x 32) xs →
     zs ≡ map (λ x. rotate_right w64 x next) ys → zs ≡ map (λ x. rotate_right w64 x all) xs
@@ -135,7 +135,7 @@ by_two next all e (x ∷ xs) ys zs h a b = rw (b, a) (cons_same _ _ _ _ (e x h.0
 
 -- ---- halves that change places
 
--- the bytes of a number make it
+-- the number that the bytes of x make is x
 number_of_bytes : (n x : ℕ) → x < 256 ^ n → number_l 256 (digits_l 256 n x) ≡ x
 number_of_bytes zero x h = omega arith
 number_of_bytes (suc n) x h =
@@ -263,7 +263,7 @@ pub two_mixes_at : (i : ℕ) (v : List (List ℕ)) (a0 a1 b0 b1 c0 c1 d0 d1 : Li
 two_mixes_at i v a0 a1 b0 b1 c0 c1 d0 d1 l m0 m1 =
     rw (ap (λ (u : List (List ℕ)). two_mixes (lane i u)) (sym (pick_l_whole [] v 8 l)), m0, m1) refl
 
--- ---- half a round is two mixes of these vectors, and two of the others
+-- ---- half a round is two mixes of the vectors `firsts`, and two of the vectors `seconds`
 
 abbrev pub firsts : List (List ℕ) → List (List ℕ)
 firsts v = pick_l [] v (0 ∷ 1 ∷ 4 ∷ 5 ∷ 8 ∷ 9 ∷ 12 ∷ 13 ∷ [])
@@ -276,7 +276,7 @@ abbrev pub by_twos : {A : Type 0} → A → List A → List A → List A
 by_twos d p q = pick_l d (pick_l d p (range_with_len 0 8) ++ pick_l d q (range_with_len 0 8))
     (0 ∷ 1 ∷ 8 ∷ 9 ∷ 2 ∷ 3 ∷ 10 ∷ 11 ∷ 4 ∷ 5 ∷ 12 ∷ 13 ∷ 6 ∷ 7 ∷ 14 ∷ 15 ∷ [])
 
--- lane i of the pairs of p and q by turns is the pairs of their lanes i by turns
+-- lane i of `by_twos` of p and q is `by_twos` of lane i of p and lane i of q
 lane_by_twos : (i : ℕ) (p q : List (List ℕ)) → length p ≡ 8 → length q ≡ 8 → lane i (by_twos [] p q) ≡ by_twos 0 (lane i p) (lane i q)
 lane_by_twos i p q lp lq =
     by_elements [] 8 (λ p. lane i (by_twos [] p q) ≡ by_twos 0 (lane i p) (lane i q)) p lp
@@ -289,7 +289,8 @@ half_round_by_twos : (i : ℕ) (v : List (List ℕ)) → length v ≡ 16 →
 half_round_by_twos i v l =
     by_elements [] 16 (λ v. by_twos 0 (two_mixes (lane i (firsts v))) (two_mixes (lane i (seconds v))) ≡ half_round (lane i v)) v l refl
 
--- p and q with GB on columns 0, 1 and on 2, 3 of lane i are, by turns, half a round of that lane
+-- if lane i of p is GB on columns 0 and 1, and lane i of q is GB on columns 2 and 3, then lane i of `by_twos`
+-- of p and q is half a round of lane i
 pub half_round_at : (i : ℕ) (v p q : List (List ℕ)) → length v ≡ 16 → length p ≡ 8 → length q ≡ 8 →
     lane i p ≡ two_mixes (lane i (firsts v)) → lane i q ≡ two_mixes (lane i (seconds v)) →
     lane i (by_twos [] p q) ≡ half_round (lane i v)
@@ -297,7 +298,7 @@ half_round_at i v p q lv lp lq ep eq =
     lane_by_twos i p q lp lq ∙ (ap (λ w. by_twos 0 w (lane i q)) ep
     ∙ (ap (λ w. by_twos 0 (two_mixes (lane i (firsts v))) w) eq ∙ half_round_by_twos i v lv))
 
--- ---- a round: the second half is the first on words that change their places, and change them back
+-- ---- a round: its second half is the first half on words that are moved before it, and moved back after it
 
 -- the places that the diagonals come from, as columns, and those that they go back to
 abbrev pub places_across : List ℕ

@@ -51,17 +51,17 @@ left_columns u v k h = each_of_4 (λ k. column (nth_vector (left_of u v)) k ≡ 
 pub right_columns : (u v : List (List ℕ)) (k : ℕ) → k < 4 → column (nth_vector (right_of u v)) k ≡ column (eight_rows u v) (k + 4)
 right_columns u v k h = each_of_4 (λ k. column (nth_vector (right_of u v)) k ≡ column (eight_rows u v) (k + 4)) refl refl refl refl k h
 
--- two vectors of each eight, by turns
+-- the vectors of two lists of eight, by turns: one of each list at a time
 abbrev pub halves_joined : List (List ℕ) → List (List ℕ) → List (List ℕ)
 halves_joined u v =
     nth_vector u 0 ∷ nth_vector v 0 ∷ nth_vector u 1 ∷ nth_vector v 1 ∷ nth_vector u 2 ∷ nth_vector v 2 ∷ nth_vector u 3 ∷ nth_vector v 3
     ∷ nth_vector u 4 ∷ nth_vector v 4 ∷ nth_vector u 5 ∷ nth_vector v 5 ∷ nth_vector u 6 ∷ nth_vector v 6 ∷ nth_vector u 7 ∷ nth_vector v 7 ∷ []
 
--- eight columns, of which four and four stand in the halves of the rows
+-- eight columns: four in the vectors u, and then four in the vectors v
 abbrev pub eight_columns : List (List ℕ) → List (List ℕ) → ℕ → List ℕ
 eight_columns u v = four_and_four (column (nth_vector u)) (column (nth_vector v))
 
--- the vectors number j of two lists, joined, are the eight words of the one and of the other
+-- vector j of u and vector j of v, joined, are the eight words of the first and then those of the second
 joined_row : (u v : List (List ℕ)) → length u ≡ 8 → length v ≡ 8 → Each1 Long u → Each1 Long v → (j : ℕ) → j < 8 →
     nth_vector u j ++ nth_vector v j ≡ pick_l 0 (nth_vector u j) (range_with_len 0 8) ++ pick_l 0 (nth_vector v j) (range_with_len 0 8)
 joined_row u v lu lv eu ev j h =

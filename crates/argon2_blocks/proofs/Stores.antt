@@ -59,11 +59,11 @@ length_xor (x ∷ xs) (y ∷ ys) e = ap suc (length_xor xs ys (omega arith))
 abbrev pub Long : List ℕ → Type 0
 Long a = length a ≡ 8
 
--- dropping n + m words of two joined lists, the first of n, leaves the second without its first m
+-- dropping n + m words of two joined lists, where the first list has n, leaves the second without its first m
 pub drop_front : (xs ys : List ℕ) (n m k : ℕ) → length xs ≡ n → k ≡ n + m → drop k (xs ++ ys) ≡ drop m ys
 drop_front xs ys n m k e f = ap (λ k. drop k (xs ++ ys)) (f ∙ ap (λ n. n + m) (sym e)) ∙ drop-append-add xs ys m
 
--- of vectors of eight words each, joined, the eight words from place 8 * k on are vector k
+-- vector k is the eight words from place 8 * k on of the joined vectors, which have eight words each
 pub vector_at : (v : List (List ℕ)) (k : ℕ) → Each1 Long v → k < length v → slice_index_or v k [] ≡ chunk (8 * k) 8 (vector_words v)
 vector_at [] k e h = absurd (omega arith)
 vector_at (x ∷ v) zero e h = sym (take_at x (vector_words v) 8 e.0)
@@ -307,8 +307,8 @@ joined_pairs v l = by_elements [] 16 (λ v. vector_words v ≡ flat_map (vector_
 
 -- ---- the whole
 
--- The vectors r give the permuted rows p, these the permuted columns d, and these the vectors o.
--- Rows and columns are named by number, wherever they stand.
+-- p are the permuted rows of the vectors r, d are the permuted columns of p, and the columns of d are the
+-- rows of the vectors o. Rows and columns are named by number, wherever they stand.
 pub whole : (r o : List (List ℕ)) (p d : ℕ → List ℕ) → length r ≡ 16 → Each1 Long r → length o ≡ 16 →
     ((j : ℕ) → j < 8 → p j ≡ permute_p (vector_pair r j)) →
     ((k : ℕ) → k < 8 → d k ≡ permute_p (column p k)) →

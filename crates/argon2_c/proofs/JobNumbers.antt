@@ -47,7 +47,7 @@ pub version_of-number : (version : Version) (number : ℕ) → version_number ve
 version_of-number Version10 number e = subst (λ n. version_of n ≡ Some Version10) e refl
 version_of-number Version13 number e = subst (λ n. version_of n ≡ Some Version13) e refl
 
--- a number that is none of a variant's stands for no variant
+-- a number that no variant has stands for no variant
 pub variant_of-none : (number : ℕ) → IsNoVariantNumber number → variant_of number ≡ None
 variant_of-none number none = elim (eqb_tells number 0) [
   | inl w ↦ absurd (none Argon2d (sym w.1))
@@ -57,7 +57,7 @@ variant_of-none number none = elim (eqb_tells number 0) [
   ]
 ]
 
--- a number that is none of a version's stands for no version
+-- a number that no version has stands for no version
 pub version_of-none : (number : ℕ) → IsNoVersionNumber number → version_of number ≡ None
 version_of-none number none = elim (eqb_tells number 0x10) [
   | inl w ↦ absurd (none Version10 (sym w.1))
@@ -106,7 +106,7 @@ neither : (a b : Bool) → (a || b) ≡ false → (a ≡ false) × (b ≡ false)
 neither true b h = absurd (cc)
 neither false b h = (refl, h)
 
--- a number that is told not to be 0 is greater than 0
+-- a number for which `== 0` is false is greater than 0
 some : (n : ℕ) → (n == 0) ≡ false → 0 < n
 some n h = elim (eqb_tells n 0) [ inl w ↦ absurd (cc (w.0)) | inr w ↦ omega (arith, w.1) ]
 
@@ -170,7 +170,7 @@ module _ (settings : Settings) (s a secret ad : Bor (List ℕ)) where
       let same : config ≡ config_with settings s a v w = cc in
       rw same (refl, refl)
 
-  -- the table looks at their bytes' lengths alone
+  -- of the secret and the associated data, the table looks only at the lengths
   pub same_error : (config : Config) (pwd salt hash : ℕ) → Ok config ≡ config_of settings s a → s.now ≡ secret.now → a.now ≡ ad.now
       → table_error (with_inputs config secret ad) pwd salt hash ≡ table_error config pwd salt hash
   same_error config pwd salt hash is same_secret same_ad =
@@ -178,7 +178,7 @@ module _ (settings : Settings) (s a secret ad : Bor (List ℕ)) where
       table_error-same (with_inputs config secret ad) config pwd salt hash refl refl refl
       (sym same_secret ∙ ap (λ (x : Bor (List ℕ)). x.now) (sym own.0)) (sym same_ad ∙ ap (λ (x : Bor (List ℕ)). x.now) (sym own.1))
 
--- a comparison does not look at them
+-- a comparison does not look at the secret and the associated data
 pub agrees_with : (d : Spelled) (config : Config) (secret ad : Bor (List ℕ)) → Agrees d config → Agrees d (with_inputs config secret ad)
 agrees_with d config secret ad h = record {
   variant = h.variant;
@@ -214,7 +214,7 @@ no_head text error old Done (inr (is, ascii, none)) = record {
   spelled = λ _ d s. absurd (none d s);
 }
 
--- what `Done` says of any salt and hash behind a head, it says of the decoded value
+-- if `Done` is true of any salt and hash with a head, it is true of the decoded value
 pub by_head : {A : Type 0} (text : List ℕ) (h : Head) (old new : A) (answer : Result (Unit {0}) CallError) (Done : Spelled → Type 0) → HasHead text h
     → ((salt hash : List ℕ) → IsItem h.salt.now salt → IsItem h.hash.now hash → Done (spelled_with h salt hash)) → OfText text old new answer Done
 by_head text h old new answer Done (ascii, s) done = record {
@@ -225,7 +225,7 @@ by_head text h old new answer Done (ascii, s) done = record {
 
 -- ---- the job of an encoded hash rests on what it decodes to, the secret and the associated data alone
 
--- the configuration used for a value has the job of any with the decoded fields, secret and data
+-- each configuration with the decoded fields, the secret and the data has the same job as the one that is used
 pub made_job : (d : Spelled) (pwd secret ad : List ℕ) (config used : Config) (job : CallerJob) → IsConfigOf d secret ad used → IsStoredConfig d secret ad config
     → used.hash_length ≡ length d.hash → job ≡ job_of (setting_of pwd d.salt used used.hash_length) used.hash_length
     → job ≡ job_of (setting_of pwd d.salt config (length d.hash)) (length d.hash)

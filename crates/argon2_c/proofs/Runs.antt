@@ -28,7 +28,7 @@ use Rattle.argon2_c.specs.declared.jobs.CallerJob.{CallerJob}
 
 -- ---- from the answers of the steps to the tag
 
--- ---- what 0 says of a step
+-- ---- what a step did if it returned 0
 
 -- two numbers are equal or not
 decide : {A : Type 0} (one other : ℕ) → ((one ≡ other → ⊥) → A) → (one ≡ other → A) → A
@@ -77,13 +77,13 @@ three_of (a ∷ b ∷ []) e = absurd (omega (arith, e))
 three_of (a ∷ b ∷ c ∷ []) e = refl
 three_of (a ∷ b ∷ c ∷ d ∷ rest) e = absurd (omega (arith, e))
 
--- what one call wrote, where it answered 0
+-- what the call for all steps wrote, if it returned 0
 hashed : (s : Setting) (len : ℕ) (old new : BlocksAndTag) → HashesJob (Some s) len old new (Ok tt) → new.tag ≡ tag_from (last_blocks s) len
 hashed s len old new h =
     decide (length old.blocks) (memory_blocks s) (λ no. absurd (let e = (h.wrong_blocks no).0 in cc)) (λ one.
     decide (length old.tag) len (λ no. absurd (let e = (h.wrong_length one no).0 in cc)) (λ two. (h.hashed one two).1))
 
--- and what it judged, where it did
+-- and its verdict, if it returned a verdict
 judged : (s : Setting) (len : ℕ) (hash : List ℕ) (old new : BlocksAndTag) (answer : Result (Unit {0}) CallError)
     → (answer ≡ Err WrongBlocks → ⊥) → (answer ≡ Err WrongLength → ⊥) → JudgesJob (Some s) len hash old new answer
     → Tells (hash ≡ tag_from (last_blocks s) len) answer
@@ -167,7 +167,7 @@ module _ (pwd salt : List ℕ) (config : Config) (len : ℕ) where
 
 -- ---- from turns to a run
 
--- if two lists without their element at i are the same, so are their elements elsewhere
+-- if two lists are the same once the element at i is removed, their other elements are the same
 pub same_at : (xs ys : List (List (List ℕ))) (i k : ℕ) → i < length xs → i < length ys → k ≢ i → remove ys i ≡ remove xs i → get_or ys k [] ≡ get_or xs k []
 same_at xs ys i k in_xs in_ys ne same = elim (cases_lt k i) [
   | inl w ↦ sym (get_or-remove_below ys i [] k w in_ys) ∙ ap (λ (zs : List (List (List ℕ))). get_or zs k []) same ∙ get_or-remove_below xs i [] k w in_xs
@@ -213,7 +213,7 @@ module _ (job : CallerJob) where
     }
 
   module _ (start : List (List (List ℕ))) (slices : ℕ → List (List (List ℕ))) (run : IsRunOfTurns job start slices) where
-    -- what stands elsewhere than the slice taken out
+    -- the slices other than the one that is filled stay the same
     beside_same : (n k : ℕ) → n < 4 * job.passes → k ≢ n % 4 → slice_at (slices (suc n)) k ≡ slice_at (slices n) k
     beside_same n k few ne = same_at (slices n) (slices (suc n)) (n % 4) k (omega (arith, run.four n)) (omega (arith, run.four (suc n))) ne
         (all_unchanged (IsFill job n) (SameBeside job (n % 4)) (lane_of job (n % 4)) (FillsBeside n) (fills_apart n) job.lanes

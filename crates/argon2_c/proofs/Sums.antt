@@ -58,7 +58,7 @@ there f place value = elim (eqb_tells place place) [ inl x ↦ hit f place value
 pub elsewhere : {A : Type 0} (f : ℕ → A) (place : ℕ) (value : A) (i : ℕ) → i ≢ place → updated f place value i ≡ f i
 elsewhere f place value i ne = elim (eqb_tells i place) [ inl x ↦ absurd (ne x.1) | inr x ↦ miss f place value i x.0 ]
 
--- one of the numbers has a property, or all have the other
+-- if each number has the property P or Q, then all have P, or one has Q
 pub search_below : (n : ℕ) (P Q : ℕ → Type 0) → ((i : ℕ) → i < n → P i ⊎ Q i) → ((i : ℕ) → i < n → P i) ⊎ ((i : ℕ) × (i < n) × Q i)
 search_below zero P Q each = inl (λ i inside. absurd (omega (arith, inside)))
 search_below (suc n) P Q each = elim (search_below n P Q (λ i inside. each i (omega (arith, inside)))) [

@@ -252,7 +252,7 @@ module _ (w : T.Work) where
         other_lane : (l : ℕ) → w.worker l ≢ i → w.segment s.step l memory ≡ w.segment s.step l s.memory
         other_lane l ne = subst (λ (k : ℕ). w.segment k l memory ≡ w.segment k l s.memory) now (can.others l (omega (arith, ne)))
 
-        -- a worker that is not at work is another one
+        -- a worker that is not at work is not the worker whose segments are written
         is_other : (l k : ℕ) → s.state (w.worker l) ≡ k → k ≢ 2 * s.step + 1 → w.worker l ≢ i
         is_other l k is ne e = let same = ap s.state e in ne (omega (arith, is, same, can.can.at_work, now))
 

@@ -7,7 +7,7 @@ use Rattle.argon2_c.proofs.Team.{hit, miss}
 use Rattle.argon2_c.proofs.Team as P
 use Rattle.argon2_c.proofs.Sums.{total, total_same, total_change, total_least, total_most, total_full, total_none, total_all, there, elsewhere, search_below, below}
 
--- how many parts a thread has not yet told of, and how many the caller's thread knows of
+-- for how many finished parts a thread has not yet woken the caller's thread, and of how many that thread knows
 abbrev untold : H.Place → ℕ
 untold (H.Taking part n) = n
 untold (H.Working part n) = n
@@ -161,7 +161,7 @@ module _ (w : T.Work) (members : ℕ) (is_long : Bool) where
     pub chain : s.team.is_over ≡ false → (i : ℕ) → i < w.tasks → IsClaimed s i → members < next i → IsClaimed s (next i) ⊎ GoesOn s i
     pub count : s.team.is_over ≡ false → Count s
 
-  -- ---- what a move of one thread leaves of the others
+  -- ---- what a move of one thread leaves unchanged in the others
 
   pub record Changes (s t : Threads) (j : ℕ) : Type 0 where
     pub place : (k : ℕ) → k ≢ j → t.place k ≡ s.place k
@@ -320,7 +320,7 @@ module _ (w : T.Work) (members : ℕ) (is_long : Bool) where
       facts : P.Holds w s.team
       facts = P.holds w apart s.team inv.team
 
-      -- what a move of the caller's thread, or of another, makes of the count
+      -- how a move of the caller's thread, or of another thread, changes the count
       module _ (t : Threads) (j : ℕ) (c : Changes s t j) where
         told_same : j ≡ 0 → total members (λ k. untold (t.place (suc k))) ≡ total members (λ k. untold (s.place (suc k)))
         told_same e = total_same members (λ k. untold (s.place (suc k))) (λ k. untold (t.place (suc k)))
@@ -780,7 +780,7 @@ module _ (w : T.Work) (members : ℕ) (is_long : Bool) where
 
       -- ---- parts
 
-      -- a thread that takes no more parts leaves none behind that it was to take
+      -- when a thread takes no more parts, all parts that it had to take are claimed
       pub own_at_member : (j : ℕ) → IsMember j → H.own_step w members is_long s j ≡ s.team.entered j - 1
       own_at_member j is = elim (eqb_tells j 0) [ inl x ↦ absurd (omega (arith, x.1, is.0)) | inr x ↦ rw x.0 refl ]
 
@@ -792,7 +792,7 @@ module _ (w : T.Work) (members : ℕ) (is_long : Bool) where
       claimed_if_not_free : (i : ℕ) → i < w.tasks → s.team.state i ≢ 2 * s.team.step → IsClaimed s i
       claimed_if_not_free i exists ne = omega (arith, ne, facts.states.least i exists)
 
-      -- a thread that may take no more parts has come to one that is claimed, or another's own
+      -- a thread that may take no more parts has reached a claimed part, or the own part of another thread
       claimed_after_most : s.team.is_over ≡ false → (j part n : ℕ) → j ≤ members → s.place j ≡ H.Taking part n → Position j part n → n ≤ most j → most j ≤ n
           → members < part → IsClaimed s part
       claimed_after_most over j part n inside is position few full far = elim (most_cases w members is_long j) [

@@ -15,8 +15,8 @@ use Rattle.argon2_standard.specs.Standard.Text.{Spelled, spelled_of, text_of}
 abbrev pub padded : ℕ → List ℕ → List ℕ
 padded len text = text ++ replicate (len - length text) 0
 
--- ---- what the calls return. The definitions take the configuration of some settings, or the error of their
--- numbers, and build on those of the library's own contract
+-- ---- what the calls return. The definitions take the configuration of some settings, or the error of the
+-- settings' numbers. They build on the definitions in the library's own contracts
 
 -- ---- errors
 

@@ -58,7 +58,7 @@ pub record JudgesInto (blocks len : ℕ) (tag hash : List ℕ) (old new : Blocks
   pub wrong_length : length old.blocks ≡ blocks → ((length hash ≡ len) × (length old.tag ≡ len) → ⊥) → (answer ≡ Err WrongLength) × (new ≡ old)
   pub judged : length old.blocks ≡ blocks → length hash ≡ len → length old.tag ≡ len → Tells (hash ≡ tag) answer × (new.tag ≡ tag)
 
--- whether a hash is the tag of its own length
+-- whether a hash is the tag, computed with the length of that hash
 abbrev pub JudgesOver : Result Config Error → List ℕ → List ℕ → List ℕ → BlocksAndTag → BlocksAndTag → Result (Unit {0}) CallError → Type 0
 JudgesOver (Err e) pwd salt hash old new answer = (answer ≡ Err (Library e)) × (new ≡ old)
 JudgesOver (Ok config) pwd salt hash old new answer =

@@ -14,7 +14,7 @@ use Rattle.argon2_c.specs.declared.reading.Stored.{Stored}
 use Rattle.argon2_c.specs.declared.errors.CallError.{CallError}
 use Rattle.argon2_c.specs.declared.errors.CallError.TheVariants.{Library, NoJob, TooCostly}
 
--- the error of the numbers or of the settings table for such inputs, or Ok if there is none
+-- the error of the settings' numbers or of the settings table for inputs of these lengths, or Ok if there is none
 abbrev pub Checks : Result Config Error → ℕ → ℕ → Result (Unit {0}) CallError → Type 0
 Checks (Err e) pwd_len salt_len answer = answer ≡ Err (Library e)
 Checks (Ok config) pwd_len salt_len answer =

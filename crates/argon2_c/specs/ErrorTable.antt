@@ -5,8 +5,8 @@ use Rattle.argon2_c.specs.declared.errors.CallError.{CallError}
 use Rattle.argon2_standard.specs.declared.error.Error.TheVariants as error
 use Rattle.argon2_c.specs.declared.errors.CallError.TheVariants as call
 
--- ---- the code's own table of error numbers. C programs compare numbers with the header; of the definitions, only
--- `code_of` uses the table
+-- ---- the code's own table of error numbers. C programs compare numbers with the header. Among the
+-- definitions, only `code_of` uses the table
 
 -- the numbers of the library's errors, from 1 in their order
 abbrev pub library_number : Error → ℕ

@@ -17,7 +17,7 @@ use Rattle.argon2_c.specs.declared.errors.CallError.TheVariants.{Mismatch}
 abbrev pub slice_at : List (List (List ℕ)) → ℕ → List (List ℕ)
 slice_at slices k = slice_index_or slices k []
 
--- the segment of a lane in a slice, which lies lane after lane
+-- the segment of a lane in a slice. A slice is the segments of lane 0, lane 1 and so on, in this order
 abbrev pub segment_of : CallerJob → List (List ℕ) → ℕ → List (List ℕ)
 segment_of job slice lane = take job.segment_length (drop (lane * job.segment_length) slice)
 
@@ -34,7 +34,7 @@ abbrev pub FillsLane : CallerJob → ℕ → ℕ → List (List (List ℕ)) → 
 FillsLane job n lane slices old new = let beside = remove slices (n % 4) in
     Fills (setting_of_job job) (n / 4) (n % 4) lane (slice_at beside 0) (slice_at beside 1) (slice_at beside 2) old new (Ok tt)
 
--- for each n, the four slices before slice number n is filled, counted over all passes. Each step returned 0. A
+-- `slices n` is the four slices before slice number n is filled (n counts over all passes). Each step returned 0. A
 -- lane's step depends only on its own segment and the three other slices, which no step writes meanwhile. So the
 -- order of a slice's lanes is left open
 pub record IsRun (job : CallerJob) (slices : ℕ → List (List (List ℕ))) : Type 0 where
@@ -48,7 +48,7 @@ pub record IsRun (job : CallerJob) (slices : ℕ → List (List (List ℕ))) : T
 
 -- ---- turns
 
--- of four slices, only a lane's segment of one is written
+-- only one lane's segment of one of the four slices is written
 pub record WritesLane (job : CallerJob) (slice lane : ℕ) (before after : List (List (List ℕ))) : Type 0 where
   pub beside : remove after slice ≡ remove before slice
   pub lanes : (l : ℕ) → l ≢ lane → segment_of job (slice_at after slice) l ≡ segment_of job (slice_at before slice) l
@@ -58,7 +58,7 @@ pub record IsBegin (job : CallerJob) (lane : ℕ) (before after : List (List (Li
   pub begun : Begins (setting_of_job job) lane (segment_of job (slice_at before 0) lane) (segment_of job (slice_at after 0) lane) (Ok tt)
   pub only : WritesLane job 0 lane before after
 
--- its turn in slice number n. Each turn sees what the turns before it wrote
+-- a lane's turn in slice number n. Each turn sees what the turns before it wrote
 pub record IsFill (job : CallerJob) (n lane : ℕ) (before after : List (List (List ℕ))) : Type 0 where
   pub filled : FillsLane job n lane before (segment_of job (slice_at before (n % 4)) lane) (segment_of job (slice_at after (n % 4)) lane)
   pub only : WritesLane job (n % 4) lane before after
@@ -74,7 +74,7 @@ pub record IsRunOfTurns (job : CallerJob) (start : List (List (List ℕ))) (slic
 abbrev pub EveryOrderOfTurnsIsARun : Type 0
 EveryOrderOfTurnsIsARun = (job : CallerJob) (start : List (List (List ℕ))) (slices : ℕ → List (List (List ℕ))) → IsRunOfTurns job start slices → IsRun job slices
 
--- ---- what runs give
+-- ---- the results after a run
 
 -- after a run, `finish` writes the tag
 abbrev pub EveryRunGivesTheTag : Type 0

@@ -26,7 +26,7 @@ variant_of number =
 abbrev pub version_of : ℕ → Option Version
 version_of number = if number == 0x10 then Some Version10 else (if number == 0x13 then Some Version13 else None)
 
--- the settings with this variant and this version, filled in the caller's thread
+-- the configuration with this variant and this version, whose memory is filled in the caller's thread
 abbrev pub config_with : Settings → Bor (List ℕ) → Bor (List ℕ) → Variant → Version → Config
 config_with settings secret ad variant version = record {
   ad = ad;

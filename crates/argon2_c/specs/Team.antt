@@ -1,6 +1,7 @@
 -- A model of the threads that fill memory for the C driver. A team takes the steps of one hash. It has any number of
 -- threads, of lanes, and of workers, each with some of the lanes. A thread can be late, take a part meant for another,
--- or fail, and a thread pool can run wrong tasks. The driver names each move where it makes it.
+-- or fail, and a thread pool can run wrong tasks. A comment at each function of the driver names the moves that it
+-- makes.
 use Rattle.std.specs.Prelude.{◌≡◌, ◌≢◌, ◌⊎◌, ℕ, suc, ◌+◌, ◌*◌, ◌<◌, ◌≤◌, Bool, true, false, cond, eqb}
 
 -- What a team has to do: some steps, one after another, each of which writes one segment of each lane.
@@ -94,7 +95,8 @@ pub record CanAdvance (w : Work) (s : Team w) : Type 0 where
 abbrev pub IsPoolIdle : (w : Work) → Team w → Type 0
 IsPoolIdle w s = (w.has_pool ≡ true) × ((i : ℕ) → i < w.tasks → s.state i ≢ 2 * s.step + 1)
 
--- The caller's thread stops after the last step, when all workers are through, or after a pool returned.
+-- The caller's thread can stop in three cases: after the last step, once all workers are through with its step, or
+-- after a pool returned.
 pub record CanStop (w : Work) (s : Team w) : Type 0 where
   pub goes_on : s.is_over ≡ false
   pub why : (s.step ≡ w.steps) ⊎ AreThrough w s ⊎ IsPoolIdle w s
@@ -150,7 +152,7 @@ after w s (Fails n i code) = ends w s n i code
 after w s Advances = advances w s
 after w s Stops = stops w s
 
--- ---- what comes of any moves in any order
+-- ---- the states that any moves in any order can reach
 
 pub record IsStart (w : Work) (s : Team w) : Type 0 where
   pub step : s.step ≡ 0
@@ -179,7 +181,7 @@ pub record IsApart (w : Work) : Type 0 where
   pub seen : (n l : ℕ) (before middle : w.Memory) (old new : w.Segment) → w.Keeps n before middle → w.Fills n l middle old new
       → w.Fills n l before old new
 
--- ---- the theorems, of work that is apart
+-- ---- the theorems, for work of which IsApart is true
 
 -- Each step that the caller's thread has left is a whole step, and after the last one memory stays as it was.
 abbrev pub EveryStepIsWhole : Work → Type 0

@@ -53,7 +53,7 @@ own_step w members is_long s j = cond (eqb j 0) s.team.step (s.team.entered j - 
 abbrev pub most : (w : Work) (members : ℕ) (is_long : Bool) → ℕ → ℕ
 most w members is_long j = cond is_long (cond (eqb j 0) (w.tasks - members) 1) w.tasks
 
--- The part that is taken after a part.
+-- The part that a thread tries to take after this part.
 abbrev pub next : (w : Work) (members : ℕ) (is_long : Bool) → ℕ → ℕ
 next w members is_long part = cond (eqb part 0) w.tasks part - 1
 
@@ -146,7 +146,7 @@ pub data IsReached (w : Work) (members : ℕ) (is_long : Bool) : Threads w membe
   moves : (s t : Threads w members is_long) (m : Move w members is_long) → IsReached w members is_long s → Can w members is_long s m
       → t ≡ after w members is_long s m → IsReached w members is_long t
 
--- ---- the theorems, of work that is apart
+-- ---- the theorems, for work of which IsApart is true
 
 -- What the threads do are moves of a team.
 abbrev pub ThreadsAreATeam : (w : Work) (members : ℕ) (is_long : Bool) → Type 0
@@ -157,7 +157,7 @@ abbrev pub SomeThreadCanGoOn : (w : Work) (members : ℕ) (is_long : Bool) → T
 SomeThreadCanGoOn w members is_long =
     (s : Threads w members is_long) → IsReached w members is_long s → s.place 0 ≢ Ended → (m : Move w members is_long) × Can w members is_long s m
 
--- After its return, all others have ended.
+-- After the call has returned, all other threads have ended.
 abbrev pub AllThreadsEnd : (w : Work) (members : ℕ) (is_long : Bool) → Type 0
 AllThreadsEnd w members is_long =
     (s : Threads w members is_long) → IsReached w members is_long s → s.place 0 ≡ Ended → (j : ℕ) → IsMember w members is_long j → s.place j ≡ Ended

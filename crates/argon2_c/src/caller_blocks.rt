@@ -67,8 +67,8 @@ fn hash_context(
 }
 
 /// Whether a hash is a password's tag. The settings are checked with the hash's length, not with
-/// `settings.hash_length`. The tag is then in `tag`, of this length. Its errors are those of
-/// `hash`.
+/// `settings.hash_length`. The tag is then in `tag`, which has the hash's length. The errors are
+/// those of the function `hash`.
 #[inline(never)]
 pub fn verify(
     pwd: &[u8],
@@ -95,7 +95,7 @@ pub fn verify(
     verify_context(&context, blocks, hash, tag)
 }
 
-/// Whether a hash is the tag of an accepted call of its length.
+/// Whether `hash` is the tag of an accepted call whose `hash_length` is the length of `hash`.
 fn verify_context(
     context: &Context<'_>,
     blocks: &mut [Block],

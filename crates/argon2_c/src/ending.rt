@@ -1,11 +1,12 @@
-//! How a call ends that computed with secrets.
+//! How a call that computed with secrets ends.
 
 ghost use Rattle.std.specs.Prelude.{◌≡◌};
 
 use argon2::parts::memory::wipe_stack;
 
-/// The number that a call returns, once the stack below the call is overwritten: the frames of the
-/// functions that it called held H0, blocks or the tag there. So those functions are never inlined.
+/// Overwrites the stack below an exported call, and returns `code`. The functions that the export
+/// called kept H0, blocks or the tag in their frames there. They are never inlined, since the
+/// export's own frame is not overwritten.
 pub fn cleared(code: u32) -> u32
     ensures { result ≡ code }
 {

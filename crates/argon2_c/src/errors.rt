@@ -17,7 +17,8 @@ pub enum CallError {
     /// The password, the secret or the associated data is not the one of the hash.
     Mismatch,
 
-    /// The buffer has another length than the tag, or no more bytes than the encoded hash.
+    /// A buffer, a tag or a hash has the wrong length, or the buffer for an encoded hash has no
+    /// room for the zero behind it.
     WrongLength,
 
     /// The string is not ASCII.
@@ -38,12 +39,12 @@ pub enum CallError {
     /// The job has no such pass, slice or lane.
     NoPlace,
 
-    /// There are more or fewer blocks than the job's slice or segment has.
+    /// There are more or fewer blocks than the memory, the slice or the segment has.
     WrongBlocks,
 }
 
-/// The number of an error of the library: its place among them, from 1. It is written out and never
-/// changes, since programs in C are compiled with the numbers.
+/// The number of an error of the library: its place among them, counted from 1. Each number is
+/// written as a literal and never changes, since C programs are compiled with the numbers.
 fn library_number(error: &Error) -> u32
     ensures { result ≡ library_number error.now }
 {
@@ -107,7 +108,7 @@ pub fn code_of(answer: &Result<(), CallError>) -> u32
 }
 
 /// What a verifying call returns to C. The number is computed from the verdict, so that no branch
-/// and no table index depends on it.
+/// and no table index depends on the verdict.
 pub fn code_of_verdict(verdict: &Result<bool, CallError>) -> u32
     ensures { result ≡ code_of (judgement_of verdict.now) }
 {

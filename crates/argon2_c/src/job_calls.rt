@@ -1,5 +1,5 @@
 //! The calls with which C fills a caller-provided memory in steps, by as many threads as it likes.
-//! An export itself may start none.
+//! An exported call itself may not start a thread.
 
 ghost use Rattle.std.specs.Prelude.{◌≡◌, ℕ, List, []};
 ghost use Rattle.std.specs.Borrow.{Bor};
@@ -37,8 +37,8 @@ pub extern "C" fn proved_argon2_job_make(
     cleared(code_of(&jobs::make(pwd, salt, secret, ad, settings, job)))
 }
 
-/// Writes the job that an encoded hash is verified by, and its salt and its hash, to buffers of
-/// their lengths. On an error all are unchanged.
+/// Writes the job with which an encoded hash is verified to `job`, and the salt and the hash of the
+/// encoded hash to buffers of their lengths. On an error `job` and both buffers are unchanged.
 #[unsafe(no_mangle)]
 pub extern "C" fn proved_argon2_job_read(
     text: &[u8],
@@ -72,7 +72,8 @@ pub extern "C" fn proved_argon2_job_begin(job: &CallerJob, lane: u32, own: &mut 
     cleared(code_of(&steps::begin(job, lane, own)))
 }
 
-/// Fills a lane's segment of a slice in a pass, beside the other three slices in rising order.
+/// Fills a lane's segment of a slice in a pass. `first`, `second` and `third` are the other three
+/// slices in rising order.
 #[unsafe(no_mangle)]
 pub extern "C" fn proved_argon2_job_fill(
     job: &CallerJob,
@@ -90,7 +91,8 @@ pub extern "C" fn proved_argon2_job_fill(
     cleared(code_of(&steps::fill(job, pass, slice, lane, first, second, third, own)))
 }
 
-/// Writes the tag of a filled memory, whose slice 3 is passed, to a buffer of its length.
+/// Writes the tag of a filled memory to `out`, which has the tag's length. `last` is slice 3 of
+/// that memory.
 #[unsafe(no_mangle)]
 pub extern "C" fn proved_argon2_job_finish(job: &CallerJob, last: &[Block], out: &mut [u8]) -> u32
     ensures { IsCodeOf (Finishes (setting_of_job job.now) job.now.hash_length last.now out.old
@@ -99,8 +101,8 @@ pub extern "C" fn proved_argon2_job_finish(job: &CallerJob, last: &[Block], out:
     cleared(code_of(&steps::finish(job, last, out)))
 }
 
-/// Returns 0 only where a hash is the tag of a filled memory, and 64 only where it is not. The tag
-/// is then in `tag`.
+/// Returns 0 only where a hash is the tag of a filled memory, and 64 only where it is not. In
+/// both cases the tag is then in `tag`.
 #[unsafe(no_mangle)]
 pub extern "C" fn proved_argon2_job_verify(
     job: &CallerJob,
@@ -114,8 +116,9 @@ pub extern "C" fn proved_argon2_job_verify(
     cleared(code_of_verdict(&steps::verify(job, last, hash, tag)))
 }
 
-/// Writes the tag of a job to a buffer of its length, computed over exactly the job's blocks,
-/// whatever their contents: all steps in one call. On an error both are unchanged.
+/// Takes all steps in one call, and writes the tag of a job to `out`, which has the tag's length.
+/// There are exactly as many blocks as the job requires, and their contents do not matter. On an
+/// error `blocks` and `out` are unchanged.
 #[unsafe(no_mangle)]
 pub extern "C" fn proved_argon2_job_hash_over(
     job: &CallerJob,
@@ -129,8 +132,8 @@ pub extern "C" fn proved_argon2_job_hash_over(
     cleared(code_of(&caller_blocks::hash_job(job, blocks, out)))
 }
 
-/// Returns 0 only where a hash is the tag of a job, and 64 only where it is not. The tag is then in
-/// `tag`.
+/// Returns 0 only where a hash is the tag of a job, and 64 only where it is not. In both cases the
+/// tag is then in `tag`.
 #[unsafe(no_mangle)]
 pub extern "C" fn proved_argon2_job_verify_over(
     job: &CallerJob,
@@ -167,8 +170,8 @@ pub extern "C" fn proved_argon2_encode(
 ///   the tag, and `verify` says whether a hash is the tag. The calls that take all steps in one
 ///   order return the same.
 /// - The same is true if threads of the driver's model take the steps (`team`, `team_verdict`).
-///   Once a call is over, no thread works (`team_end`). It goes on only if its pool ran each task
-///   once (`team_pool`). The threads never all wait, and a call ends unless a proved call in it
+///   Once a call is over, no thread works (`team_end`). A call goes on to the next step only if its
+///   pool ran each task once (`team_pool`). The threads never all wait, and a call ends unless a proved call in it
 ///   writes for ever (`team_returns`).
 pub fn any_order_of_steps()
     ensures turns { EveryOrderOfTurnsIsARun }

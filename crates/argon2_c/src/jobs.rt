@@ -71,7 +71,8 @@ impl CallerJob {
         }
     }
 
-    /// Whether no valid settings have a job with these numbers, whatever the variant and the version.
+    /// Whether the numbers other than the variant and the version are out of bounds. Then no valid
+    /// settings have a job with these numbers.
     fn is_out_of_bounds(&self) -> bool
         ensures { result ≡ is_out_of_bounds self.now }
     {
@@ -167,9 +168,9 @@ pub fn make(
     Ok(())
 }
 
-/// Writes the job that an encoded hash is verified by, and its salt and its hash, to buffers of
-/// their lengths. Its errors are those of `read`; then the settings are checked, and last the
-/// buffers. On an error all are unchanged.
+/// Writes the job with which an encoded hash is verified to `job`, and the salt and the hash of the
+/// encoded hash to buffers of their lengths. The errors of `read` come first, then those of the
+/// settings, and last those of the buffers. On an error `job` and both buffers are unchanged.
 #[inline(never)]
 pub fn make_stored(
     text: &[u8],

@@ -49,8 +49,8 @@ use errors::{code_of, code_of_verdict};
 pub use settings::Settings;
 
 /// Writes the tag of a password (RFC 9106, 3.2) to `out`, which has `settings.hash_length` bytes,
-/// computed over exactly the blocks of the settings, whatever their contents. On an error both are
-/// unchanged.
+/// computed over `blocks`. There are exactly as many blocks as the settings require, and their
+/// contents do not matter. On an error `blocks` and `out` are unchanged.
 #[unsafe(no_mangle)]
 pub extern "C" fn proved_argon2_hash_over(
     pwd: &[u8],
@@ -69,7 +69,8 @@ pub extern "C" fn proved_argon2_hash_over(
 }
 
 /// Returns 0 only where `hash` is the tag of a password, and 64 only where it is not;
-/// `settings.hash_length` is ignored. Either way the tag is in `tag`, of the length of `hash`.
+/// `settings.hash_length` is ignored. In both cases the tag is then in `tag`, which is as long as
+/// `hash`.
 #[unsafe(no_mangle)]
 pub extern "C" fn proved_argon2_verify_over(
     pwd: &[u8],
@@ -112,7 +113,8 @@ pub extern "C" fn proved_argon2_read_within(
 }
 
 /// Returns 0 only if a hash with these settings can be made from inputs of these lengths, given
-/// enough memory. Only the numbers of variant and version and the settings table are checked.
+/// enough memory. It checks only the numbers of the variant and the version, and then the settings
+/// table: the limits on costs and lengths.
 #[unsafe(no_mangle)]
 pub extern "C" fn proved_argon2_check(
     settings: &Settings,
@@ -164,8 +166,8 @@ pub extern "C" fn proved_argon2_needs_rehash(text: &[u8], settings: &Settings) -
     code_of(&reading::needs_rehash(text, settings))
 }
 
-/// The length of the encoded hash that `proved_argon2_encode` writes, without the zero behind it,
-/// or 0 where no variant or no version has the given number, since no encoded hash has that length.
+/// The length of the encoded hash that `proved_argon2_encode` writes, without the zero behind it.
+/// It is 0 if no variant or no version has the given number: no encoded hash is that short.
 #[unsafe(no_mangle)]
 pub extern "C" fn proved_argon2_encoded_len(settings: &Settings, salt_len: u32) -> u64
     ensures { (secret ad : Bor (List ℕ)) → IsTextLength

@@ -53,8 +53,8 @@ impl Stored {
     }
 }
 
-/// A length, in a field of 32 bits. A longer one is reported as 2^32 - 1: only an encoded hash of 5
-/// GiB has one, and verifying rejects it.
+/// A length, in a field of 32 bits. A longer length is reported as 2^32 - 1. Only an encoded hash
+/// of more than 5 GiB has such a length, and verifying rejects it.
 fn held_len(len: u64) -> u32
     ensures { result ≡ held len }
 {
@@ -141,7 +141,7 @@ fn error_for(
         return Some(CallError::TooCostly);
     }
     let config = config_of_numbers(numbers, &[], &[]);
-    // The length of the hash is checked apart, in 64 bits.
+    // The table checks the hash's length in 64 bits: `config.hash_length` may be too small for it.
     let (salt_len, hash_len) = (numbers.salt_len, numbers.hash_len);
     match error_of_lengths(&config, pwd_len, salt_len, secret_len, ad_len, hash_len) {
         Some(error) => Some(CallError::Library(error)),
@@ -150,7 +150,8 @@ fn error_for(
 }
 
 /// Writes the salt and the hash of an encoded hash to buffers of their lengths. The errors of
-/// `read` come first; another length of a buffer is `WrongLength`. On an error both are unchanged.
+/// `read` come first; then a buffer of the wrong length is `WrongLength`. On an error both buffers
+/// are unchanged.
 pub fn read_bytes(text: &[u8], salt: &mut [u8], hash: &mut [u8]) -> Result<(), CallError>
     ensures { ReadsBytes text.now (record { salt = salt.old; hash = hash.old })
         (record { salt = salt.new; hash = hash.new }) result }

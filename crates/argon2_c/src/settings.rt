@@ -39,8 +39,9 @@ pub struct Settings {
 }
 
 impl Settings {
-    /// The configuration of these settings, filled in the caller's thread. A number that no variant
-    /// has is `IncorrectType`, and then one that no version has is `IncorrectVersion`.
+    /// The configuration of these settings, whose memory is filled in the caller's thread.
+    /// A number that no variant has is `IncorrectType`. Otherwise a number that no version has is
+    /// `IncorrectVersion`.
     pub fn config<'a>(&self, secret: &'a [u8], ad: &'a [u8]) -> argon2::Result<Config<'a>>
         ensures { result ≡ config_of self.now secret.entry ad.entry }
     {
@@ -129,8 +130,8 @@ fn memory_len(config: &Config<'_>) -> u64
     }
 }
 
-/// The first parameter error for a salt of this length and a hash of `hash_length` bytes. An empty
-/// password stands for any, since none is too short.
+/// The first parameter error for a salt of this length and a hash of `hash_length` bytes. The
+/// password counts as empty, since no password is too short.
 pub fn settings_error(config: &Config<'_>, salt_len: u64) -> Option<Error>
     ensures { result ≡ table_error config.now 0 salt_len config.now.hash_length }
 {

@@ -42,7 +42,8 @@ pub fn begin(numbers: &CallerJob, lane: u32, own: &mut [Block]) -> Result<(), Ca
     Ok(())
 }
 
-/// Fills a lane's segment of a slice in a pass, beside the other three slices in rising order.
+/// Fills a lane's segment of a slice in a pass. `first`, `second` and `third` are the other three
+/// slices in rising order.
 #[inline(never)]
 pub fn fill(
     numbers: &CallerJob,
@@ -94,8 +95,8 @@ pub fn finish(numbers: &CallerJob, last: &[Block], out: &mut [u8]) -> Result<(),
     Ok(())
 }
 
-/// Whether a hash is the tag, which is then in a buffer of its length. The caller owns the buffer
-/// and clears it: a compiler may drop a write here that nobody reads.
+/// Whether `hash` is the tag. The tag is then in `tag`, which has the tag's length. The caller owns
+/// this buffer and clears it, since a compiler may drop a write here that nobody reads.
 #[inline(never)]
 pub fn verify(
     numbers: &CallerJob,

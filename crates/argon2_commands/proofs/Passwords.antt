@@ -23,7 +23,7 @@ use Rattle.argon2_commands.specs.Run.{OfWords}
 
 -- ---- a password that was read up to its greatest length
 
--- what was read is all, or both are too long
+-- the bytes that were read are the whole input, or both they and the input are too long
 abbrev IsEnough : List ℕ → List ℕ → Type 0
 IsEnough password bytes = (password ≡ bytes) ⊎ ((nat_lt max_length (length password) ≡ true) × (nat_lt max_length (length bytes) ≡ true))
 
@@ -118,7 +118,7 @@ verify_of_input encoded result input password read h =
 
 -- ---- a password that was read up to the longest of `new` and `check`
 
--- a short one is all
+-- if the bytes that were read are short enough, they are the whole input
 pub short_is_all : (input : Option (List ℕ)) (password : List ℕ) → IfSome input (λ bytes. password ≡ take (longest_password + 1) bytes)
     → length password ≤ longest_password → IsShortPassword input password
 short_is_all None password read short = (tt, short)
@@ -126,7 +126,7 @@ short_is_all (Some bytes) password read short =
     let taken : length password ≡ min (longest_password + 1) (length bytes) = ap length read ∙ length-take (longest_password + 1) bytes in
     (read ∙ take_all (longest_password + 1) bytes (omega (arith, taken, short)), short)
 
--- and if it is long, the input is too long
+-- if they are too many, the input is too long
 pub long_is_more : (input : Option (List ℕ)) (password : List ℕ) → IfSome input (λ bytes. password ≡ take (longest_password + 1) bytes)
     → longest_password < length password → IsTooLong input
 long_is_more None password read long = tt
@@ -145,7 +145,7 @@ read_on (Some all) None later bytes piece gone also = absurd gone
 read_on (Some all) (Some rest) None bytes piece gone also = absurd also
 read_on (Some all) (Some rest) (Some left) bytes piece gone also = gone ∙ ap (λ r. bytes ++ r) also ∙ sym (append_assoc bytes piece left)
 
--- and no more than there is room for
+-- the next piece is not longer than the room that is left
 pub piece_fits : (bytes buf piece : List ℕ) (count room most : ℕ) → length bytes ≤ most → count ≤ length buf → count ≡ length (take count buf)
     → length buf ≡ length (take room piece) → room ≡ min 4096 (most - length bytes) → length (bytes ++ take count buf) ≤ most
 piece_fits bytes buf piece count room most within of_buf taken same left =
@@ -196,7 +196,7 @@ pub no_text : (known : Option (List (List ℕ))) (index : ℕ) (bytes : Vec ℕ 
 no_text None index bytes later found none = tt
 no_text (Some all) index bytes later found none = (index, bytes.items, later, sym found, none)
 
--- what holds of all words holds of the command line's
+-- what is true of all words is true of the words of the command line
 pub of_all_words : (known : Option (List (List ℕ))) (P : List (List ℕ) → Type 0) → ((words : List (List ℕ)) → P words) → OfWords known P
 of_all_words None P h = ([], tt, h [])
 of_all_words (Some all) P h = (drop 1 all, refl, h (drop 1 all))

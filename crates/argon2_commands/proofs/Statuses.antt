@@ -34,12 +34,12 @@ use Rattle.argon2.specs.declared.limits.Unverified.TheVariants as unverified
 abbrev nothing : Bor (List ℕ) → Bor (List ℕ)
 nothing some = record some { now = [] }
 
--- within limits nothing is too costly
+-- the answer TooCostly means above the limits
 above : (costly : Bool) (Answers : Result Bool Error → Type 0) → AnswersWithin costly Answers (Err unverified.TooCostly) → costly ≡ true
 above true Answers h = refl
 above false Answers h = absurd h
 
--- and above them everything is
+-- above the limits the only answer is TooCostly
 too_costly : (costly : Bool) (Answers : Result Bool Error → Type 0) (result : Result Bool Unverified) → costly ≡ true
     → AnswersWithin costly Answers result → result ≡ Err unverified.TooCostly
 too_costly true Answers result e h = h
@@ -53,7 +53,7 @@ is_too_costly_text encoded password h = (
   λ d spells. above (is_too_costly default_limits d) _ (h.spelled d (nothing encoded) refl spells),
 )
 
--- and nothing else is answered for it
+-- checking such a text has no other answer than TooCostly
 no_other_answer : {A : Type 0} (encoded : Bor (List ℕ)) (password : List ℕ) (result : Result Bool Unverified) → IsTooCostly encoded.now
     → CheckAnswers encoded.now password result → (result ≡ Err unverified.TooCostly → ⊥) → A
 no_other_answer encoded password result costly h other =
@@ -68,7 +68,7 @@ pub check_fault : (encoded : Bor (List ℕ)) (input : Option (List ℕ)) (passwo
 check_fault encoded input password unverified.TooCostly is h = is_too_costly_text encoded password h
 check_fault encoded input password (unverified.Refused error) is h = inr (password, is, h)
 
--- words that ask for too much are those of the command
+-- if a command's fault is TooCostly, its words ask for too much
 pub is_costly : (program : Program) (words : List (List ℕ)) (input : Option (List ℕ)) (command : Command) (fault : Fault)
     → IsCommand program words command → MayFail command input fault → fault ≡ TooCostly → AreTooCostly program words
 is_costly program words input command fault is may costly =
@@ -84,7 +84,7 @@ nothing_costly words costly = none costly.command costly.is_command costly.asks_
   none (New config salt) is costly = absurd is
   none (Check encoded) is costly = absurd is
 
--- two settings of the same words ask for the same
+-- two settings that the same words name have the same costs
 same_number : (word : List ℕ) (one other : ℕ) → IsNumber word one → IsNumber word other → one ≡ other
 same_number word one other is also = sym is.1 ∙ also.1
 
@@ -96,7 +96,7 @@ same_costs words one other is also =
     let lanes = same_number (word words 5) one.lanes other.lanes is.lanes also.lanes in
     rw (memory, time, lanes) refl
 
--- names that differ at a letter are two
+-- names that differ in a letter are different
 other_name : {A : Type 0} {one other : List ℕ} (place : ℕ) → one ≡ other → (slice_index_or one place 0 ≡ slice_index_or other place 0 → ⊥) → A
 other_name place same differ = absurd (differ (ap (λ name. slice_index_or name place 0) same))
 
@@ -176,12 +176,12 @@ pub below_five : (program : Program) (status : ℕ) → status < 5 → status < 
 below_five Argon2 status low = low
 below_five Tool status low = omega (arith, low)
 
--- and 5 is one where a program's words can ask for too much
+-- 5 is a status of a program whose words can ask for too much
 five : (program : Program) (words : List (List ℕ)) (status : ℕ) → AreTooCostly program words → status ≡ 5 → status < statuses_of program
 five Argon2 words status costly e = nothing_costly words costly
 five Tool words status costly e = omega (arith, e)
 
--- the status of a fault is 2, 3, 4 or, of such words, 5
+-- the status of a fault is 2, 3 or 4, or 5 if the words ask for too much
 pub fault_bounded : (program : Program) (words : List (List ℕ)) (fault : Fault) (status : ℕ) → status ≡ fault_status fault
     → (fault ≡ TooCostly → AreTooCostly program words) → status < statuses_of program
 fault_bounded program words (Refused error) status e costly = below_five program status (omega (arith, e))
@@ -231,7 +231,7 @@ at_two program TooCostly status words input before after e refused short kept tw
 at_two program Output status words input before after e refused short kept two = absurd (omega arith)
 at_two program OutputShort status words input before after e refused short kept two = inr (short refl)
 
--- so what is known of that fault is known of the status
+-- so what is equivalent to the fault Usage is equivalent to the status 3
 pub usage_status : (fault : Fault) (status : ℕ) (P : Type 0) → status ≡ fault_status fault →
     (let r : Result ℕ Fault = Err fault in r ≡ Err Usage) ↔ P → (status ≡ 3) ↔ P
 usage_status fault status P e h = (
@@ -248,14 +248,14 @@ answer_below (Verdict true) = omega arith
 answer_below (Verdict false) = omega arith
 
 module _ {program : Program} {words : List (List ℕ)} {input before after : Option (List ℕ)} {status : ℕ} where
-  -- so is that of a run that answers
+  -- the status of a run that answers is 0 or 1
   answered_below : Answered program words input before after status → status < 2
   answered_below h = subst (λ n. n < 2) (sym h.is_status) (answer_below h.answer)
 
   pub answered_bounded : Answered program words input before after status → status < statuses_of program
   answered_bounded h = let below = answered_below h in below_five program status (omega (arith, below))
 
-  -- and no other
+  -- it is no status from 2 on
   pub answered_not : {A : Type 0} (other : ℕ) → 2 ≤ other → Answered program words input before after status → status ≡ other → A
   answered_not other high h same = let below = answered_below h in absurd (omega (arith, below, high, same))
 
@@ -309,15 +309,15 @@ at_accepted (Some e) P value h = absurd (cc)
 pub same_error : (fault other : Fault) → (let r : Result ℕ Fault = Err fault in r ≡ Err other) → fault ≡ other
 same_error fault other e = cc
 
--- a status is no fault of wrong words
+-- a result that is a status is not the fault Usage
 pub status_is_no_usage : {A : Type 0} (status : ℕ) → (let r : Result ℕ Fault = Ok status in r ≡ Err Usage) → A
 status_is_no_usage status e = absurd (cc)
 
--- nor is a fault of a command's answer
+-- a fault of a command's answer is not Usage either
 pub answer_is_no_usage : {A : Type 0} (fault : Fault) (command : Command) (input : Option (List ℕ)) → MayFail command input fault → fault ≡ Usage → A
 answer_is_no_usage fault command input may usage = absurd (subst (MayFail command input) usage may)
 
--- what holds of neither fault of an output does not hold of a failed output's fault
+-- if P is false of OutputShort and of Output, P is false of the fault of a failed output
 pub output_is_not : {A Short : Type 0} (fault : Fault) (P : Fault → Type 0) → (Short → fault ≡ OutputShort) → ((Short → ⊥) → fault ≡ Output)
     → (P OutputShort → ⊥) → (P Output → ⊥) → P fault → A
 output_is_not fault P short other not_short not_output p =
@@ -325,7 +325,7 @@ output_is_not fault P short other not_short not_output p =
 
 -- ---- bytes that were written in turn
 
--- a writer that took some of the rest took that many more of all
+-- if a writer took `done` bytes and then `count` of the rest, it took the first `done + count` bytes
 pub one_more_piece : (a b c : Option (List ℕ)) (bytes : List ℕ) (done count : ℕ) → done ≤ length bytes → Appends a b (take done bytes)
     → count ≤ length (take (length bytes - done) (drop done bytes)) → Appends b c (take count (take (length bytes - done) (drop done bytes)))
     → (done + count ≤ length bytes) × Appends a c (take (done + count) bytes)
@@ -334,6 +334,6 @@ one_more_piece a b c bytes done count within before fits piece =
     let joined = ap (λ rest. take done bytes ++ rest) (take-take count (length bytes - done) (drop done bytes) (omega (arith, most, fits))) ∙ sym (take-add done count bytes) in
     (omega (arith, within, most, fits), subst (Appends a c) joined (Appends-trans a b c _ _ before piece))
 
--- and one that took nothing then has as many
+-- if a writer then took nothing, it has the same bytes as before
 pub front_kept : (a b c : Option (List ℕ)) (bytes : List ℕ) → AppendsFront a b bytes → Keeps b c → AppendsFront a c bytes
 front_kept a b c bytes front kept = (front.0, Appends-kept a b c _ front.1 kept)

@@ -99,7 +99,7 @@ module _ (words : List (List ℕ)) where
   right Tool (commands.New config salt) is = (New, record { is = (tt, is.name); count = is.count; fit = new_fits config salt is })
   right Tool (commands.Check encoded) is = (Check, record { is = (tt, is.name); count = is.count; fit = text_fits })
 
--- and where they are, so are the settings
+-- if the arguments of a command are what they have to be, its settings are too
 pub fits_as : (words : List (List ℕ)) (name other : Name) → FitBelow (kinds_of name) words (length (kinds_of name)) → name ≡ other
     → FitBelow (kinds_of other) words (length (kinds_of other))
 fits_as words name other fit same = subst (λ n. FitBelow (kinds_of n) words (length (kinds_of n))) same fit

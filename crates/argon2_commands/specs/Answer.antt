@@ -158,7 +158,7 @@ AsksTooMuch (Rehash config encoded) = ⊥
 AsksTooMuch (New config salt) = is_above_limits config ≡ true
 AsksTooMuch (Check encoded) = IsTooCostly encoded.now
 
--- the fault may be that of the command
+-- the command may end with this fault
 abbrev pub MayFail : Command → Option (List ℕ) → Fault → Type 0
 MayFail command input Input = ⊤
 MayFail command input (RefusedFault error) = MayBeError command input error

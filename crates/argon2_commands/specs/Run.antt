@@ -14,7 +14,7 @@ use Rattle.argon2_commands.specs.declared.usage.Program.TheVariants.{Argon2, Too
 
 -- ---- what was written to a writer that may fail
 
--- if known, the written bytes grew by a front of `bytes`: all, some or none
+-- the written bytes, if they are known, grew by the beginning of `bytes`: all of it, some or none
 abbrev pub AppendsFront : Option (List ℕ) → Option (List ℕ) → List ℕ → Type 0
 AppendsFront before after bytes = (count : ℕ) × Appends before after (take count bytes)
 
@@ -49,8 +49,8 @@ pub record AreTooCostly (program : Program) (words : List (List ℕ)) : Type 0 w
   pub is_command : IsCommand program words command
   pub asks_too_much : AsksTooMuch command
 
--- the fault of a command that asks too much, or one reported first, since the password could not be
--- read
+-- `TooCostly`, the fault of a command that asks too much, or a fault that is reported before it because the password
+-- could not be read
 abbrev pub MayPrecede : Fault → Type 0
 MayPrecede fault = (fault ≡ TooCostly) ⊎ ((fault ≡ Input) ⊎ ((fault ≡ Refused OutOfMemory) ⊎ (fault ≡ Refused PwdTooLong)))
 
@@ -58,7 +58,7 @@ MayPrecede fault = (fault ≡ TooCostly) ⊎ ((fault ≡ Input) ⊎ ((fault ≡ 
 abbrev pub NeedNoInput : Program → List (List ℕ) → Type 0
 NeedNoInput program words = (command : Command) → IsCommand program words command → NeedsNoInput command
 
--- the words are those of a command, and at most as many bytes of an input were read as it can need
+-- the words are those of a command, and no more bytes of an input were read than this command can need
 pub record ReadsFor (program : Program) (words : List (List ℕ)) (before after : Option (List ℕ)) : Type 0 where
   pub command : Command
   pub is_command : IsCommand program words command

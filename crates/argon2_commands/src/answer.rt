@@ -36,7 +36,7 @@ pub enum Answer {
 }
 
 impl Answer {
-    /// The output of a command, which reads the password from all of the input where it needs one.
+    /// The output of a command. If the command needs a password, that is all of the input.
     pub fn to<R: Threads + Wait + Sync, I: Read>(
         rt: &R,
         alloc: Global,
@@ -50,7 +50,8 @@ impl Answer {
         ensures stops { ReadsUpTo (most_read command.now) (I.remaining input.old)
             (I.remaining input.new) }
     {
-        // The input is read first, since its fault is reported before any of the call.
+        // The input is read first, since a fault of the input is reported before any fault of the
+        // call.
         match command {
             Command::Hash { config, salt } => {
                 let password = read_password(alloc, input)?;
@@ -59,7 +60,8 @@ impl Answer {
             }
             Command::Verify { encoded } => {
                 let password = read_password(alloc, input)?;
-                // Without limits, since it verifies every hash, as the library's call does.
+                // `verify` has no limits: like the library's call of this name, it verifies every
+                // hash.
                 let verdict = verify_encoded(rt, alloc, encoded, password.as_slice())?;
                 Ok(Answer::Verdict(verdict))
             }
@@ -134,7 +136,7 @@ fn tag_lines<R: Threads + Wait + Sync>(
     Ok(format!(in alloc; "{hexadecimal}\n{text}\n")?)
 }
 
-/// The lines of `tag_lines` for a password, whose settings are checked first.
+/// Checks the settings, and then returns the lines of `tag_lines` for a password.
 fn hash_lines<R: Threads + Wait + Sync>(
     rt: &R,
     alloc: Global,

@@ -47,7 +47,8 @@ pub enum Command<'a> {
 }
 
 impl<'a> Command<'a> {
-    /// A program's command of these arguments, those after its name, or what is wrong with them.
+    /// The program's command that these arguments name, or what is wrong with them. The program's
+    /// own name is not among them.
     #[tactic(auto, using(crate::proofs::UsageErrors::no_command))]
     pub fn from_words(program: Program, words: &'a [String]) -> Result<Command<'a>, UsageError>
         ensures command { IfOk result (IsCommand program (texts_of words.now)) }
@@ -60,7 +61,7 @@ impl<'a> Command<'a> {
         }
     }
 
-    /// The command of arguments that are what they have to be.
+    /// The command that these arguments name. They were checked to be right.
     fn of_right(program: Program, name: Name, words: &'a [String]) -> Command<'a>
         requires { AreRight program (texts_of words.now) name }
         ensures { IsCommand program (texts_of words.now) result }

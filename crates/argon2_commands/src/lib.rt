@@ -1,5 +1,5 @@
-//! The commands of the program `argon2` and of the shell's tool: arguments, what is done for them,
-//! faults and exit statuses.
+//! The commands of the program `argon2` and of the tool that the shell script runs: their
+//! arguments, what they do, faults and exit statuses.
 #![tactic(auto)]
 
 mod answer;

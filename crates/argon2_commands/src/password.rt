@@ -19,9 +19,9 @@ pub const LONGEST_PASSWORD: usize = 65536;
 // What is read at a time, in bytes.
 const PIECE: usize = 4096;
 
-/// All of the input, so that a password may have any bytes, a newline at its end too. It stops
-/// behind the first byte that makes the password too long for every call, and the call rejects what
-/// was read as too long.
+/// All of the input: a password may have any bytes, also a newline at its end. Reading stops after
+/// the first byte that makes the password too long for every call. The call then rejects the bytes
+/// that were read, because they are too long.
 pub(crate) fn read_password<I: Read>(alloc: Global, input: &mut I) -> Result<Vec<u8>, Fault>
     ensures bytes { IfOk result (λ password. IfSome (I.remaining input.old) (λ bytes.
         password.items ≡ take (max_length + 1) bytes)) }

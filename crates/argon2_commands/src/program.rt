@@ -67,7 +67,7 @@ pub fn start<R: Threads + Wait + Sync, L: CommandLine, I: Read, O: Write, E: Wri
 /// it. The result is written to `output`, with status 0, or 1 for `false`. Otherwise a line is
 /// written to `errors`: the message of the call's error (status 2), `usage` for arguments that are
 /// none of these (3), or `input` if the input cannot be read (4). If the output cannot be written,
-/// the status is 4 and no line is added; if it lacked memory for that, the status is 2, and the
+/// the status is 4 and no line is added; but if the output lacked memory, the status is 2, and the
 /// line is the message of `OutOfMemory`. Only the first fault is reported, in the order arguments,
 /// input, call, output, and nothing is written to `output` before the result is complete. The input
 /// is not read beyond the first byte that makes a password too long for every call.

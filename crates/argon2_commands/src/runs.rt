@@ -28,11 +28,11 @@ use std::thread::Threads;
 /// | `new VARIANT VERSION T M P LEN MODE DIGITS` | the tag in lower-case hexadecimal and the encoded hash, a line each |
 /// | `check TEXT` | `true` or `false`: whether the input is the password of the encoded hash |
 ///
-/// The salt of `new` is given in hexadecimal digits, two of either case a byte. The password is all
-/// of `input`, at most 65536 bytes; a longer one is rejected as too long before the call. An
-/// encoded hash above the default limits is not checked, and `new` rejects settings above them:
-/// status 5, and a line on `errors`. All else is as for `run`, but a second line may explain an
-/// error; for a usage error, it names the argument.
+/// The salt of `new` is given in hexadecimal: two digits for each byte, in either case. For these
+/// two commands the password is all of `input`, at most 65536 bytes; a longer one is rejected as
+/// too long before the call. An encoded hash above the default limits is not checked, and `new`
+/// rejects settings above them: status 5, and a line on `errors`. All else is as for `run`, but a
+/// second line may explain an error; for a usage error, it names the argument.
 // Its frames have H0. It is never inlined, so that `start` may overwrite them.
 #[inline(never)]
 pub fn conclude<R: Threads + Wait + Sync, I: Read, O: Write, E: Write>(
@@ -70,7 +70,7 @@ pub fn conclude<R: Threads + Wait + Sync, I: Read, O: Write, E: Write>(
 
 /// Writes the result of the arguments' command, and returns the exit status or the fault. The fault
 /// distinguishes an error of the call from an output that lacked memory; they share a status.
-/// Nothing was written unless the output failed.
+/// Before a fault, nothing was written unless the output failed.
 pub fn attempt<R: Threads + Wait + Sync, I: Read, O: Write>(
     rt: &R,
     alloc: Global,

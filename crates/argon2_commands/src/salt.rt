@@ -7,9 +7,9 @@ ghost use Rattle.hex.specs.Hex.{decode_of};
 use std::alloc::{AllocError, Global};
 use std::marker::Model;
 
-/// The salt that an argument's hexadecimal digits encode, two of either case a byte. The argument
-/// itself could not be random bytes, since it is UTF-8 without zeros. The bytes are made late, so
-/// that parsing the arguments allocates nothing.
+/// The salt that an argument's hexadecimal digits encode: two digits for each byte, in either case.
+/// The argument itself could not be random bytes, since it is UTF-8 without zeros. The bytes are
+/// made late, so that parsing the arguments allocates nothing.
 #[derive(Debug, Drop)]
 pub struct Salt<'a> {
     digits: &'a str,

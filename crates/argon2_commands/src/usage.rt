@@ -23,7 +23,7 @@ pub enum Program {
     /// `argon2_program`: `hash`, `verify` and `rehash`.
     Argon2,
 
-    /// The tool that the shell's script runs: these, `new` and `check`.
+    /// The tool that the shell script runs: the same three commands, `new` and `check`.
     Tool,
 }
 
@@ -208,8 +208,8 @@ pub(crate) fn number_of(word: &str) -> Option<u32>
     word.parse::<u32>().ok()
 }
 
-/// Writes the line of a fault, and what the tool adds to it, and returns the exit status. If an
-/// argument is not UTF-8, `words` is None.
+/// Writes the line of a fault, and what the tool adds to it, and returns the exit status. `words`
+/// is None if the arguments could not be read.
 pub(crate) fn report_fault<E: Write>(
     program: Program,
     words: Option<&[String]>,

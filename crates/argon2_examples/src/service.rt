@@ -104,7 +104,8 @@ pub fn derive(
     hash_raw_sequential(alloc, password, salt, config)
 }
 
-/// Whether a key is the password's: `Ok(true)` exactly where the key is the tag of its own length.
+/// Whether a key is the password's: `Ok(true)` exactly where the key is the tag, computed with the
+/// length of that key.
 pub fn is_key_of(
     alloc: Global,
     password: &[u8],

@@ -26,7 +26,7 @@ use Rattle.argon2_fill.specs.declared.workers.board.Slot.TheVariants as slot
 use Rattle.argon2_standard.specs.contracts.variant.Variant as variant
 use Rattle.argon2_standard.specs.contracts.version.Version as version
 
--- ---- the places of lanes, and what an event changes of them
+-- ---- the states of lanes, and how an event changes them
 
 -- the first waiting lane, counted from j
 least_from : (xs : List Place) (j n : ℕ) → ((k : ℕ) → k < n → slice_get xs k ≢ Some Waiting) → slice_get xs n ≡ Some Waiting
@@ -46,7 +46,7 @@ none_from (Waiting ∷ xs) j gone = absurd (gone 0 refl)
 none_from (Out ∷ xs) j gone = none_from xs (j + 1) (λ k. gone (suc k))
 none_from (Done ∷ xs) j gone = none_from xs (j + 1) (λ k. gone (suc k))
 
--- the least waiting lane, where those below it are gone
+-- the least waiting lane, where no lane below it waits
 pub least_waiting-Some : (xs : List Place) (n : ℕ) → ((k : ℕ) → k < n → slice_get xs k ≢ Some Waiting) → slice_get xs n ≡ Some Waiting
     → least_waiting xs ≡ Some n
 least_waiting-Some xs n gone here = least_from xs 0 n gone here ∙ ap Some (omega arith)
@@ -90,15 +90,15 @@ left-out xs i here = let e = events_left-set xs i Out Done here in omega arith
 
 -- ---- the slots of a board, as a take and a put leave them
 
--- the place of a lane is that of its slot
+-- the state of a lane is that of its slot
 pub place_at : (slots : List Slot) (k : ℕ) (s : Slot) → slice_get slots k ≡ Some s → slice_get (map place_in slots) k ≡ Some (place_in s)
 place_at slots k s here = slice_get-map place_in slots k ∙ ap (option_map place_in) here
 
--- the place of a slot just written
+-- the state of a slot just written
 written-same : (slots : List Slot) (i : ℕ) (s : Slot) → i < length slots → slice_get (map place_in (set slots i s)) i ≡ Some (place_in s)
 written-same slots i s within = place_at (set slots i s) i s (slice_get-set_same slots i s within)
 
--- writing one slot leaves the place of every other lane as it was
+-- writing one slot leaves the state of every other lane as it was
 written-other : (slots : List Slot) (i k : ℕ) (s : Slot) → k ≢ i → slice_get (map place_in (set slots i s)) k ≡ slice_get (map place_in slots) k
 written-other slots i k s other =
     slice_get-map place_in (set slots i s) k
@@ -130,7 +130,7 @@ each-set job slots i s within each here k t at =
       | inr other ↦ each k t (sym (slice_get-set_other slots i k s other.1) ∙ at)
     ]
 
--- not all lanes are gone
+-- if `next` is not the number of lanes, it is below that number
 pub lanes-more : {job : Job} {next : ℕ} {slots : List Slot} {log : List Event} (n : ℕ) → AreLanes job next slots log → n ≡ job.setting.lanes
     → next ≢ n → next < job.setting.lanes
 lanes-more n b all other = let h = b.in_range in omega (arith, all, other)
@@ -210,7 +210,7 @@ read-out {slots} own lane t b same fits read is =
     let p = ap (λ (j : Job). j.setting.lanes) same in
     slice_get-get_or slots lane t (omega (arith, p, fits, b.lanes)) ∙ ap Some (sym read ∙ is)
 
--- a slot whose place is out is itself out
+-- a slot whose state is out is `Slot.Out`
 slot-out : (t : Slot) → place_in t ≡ place.Out → t ≡ slot.Out
 slot-out (slot.Waiting s) is = absurd (cc)
 slot-out slot.Out is = refl

@@ -174,7 +174,7 @@ last_of_lane m lane column some e =
     omega (arith, d, p, is) in
     rw (q, r) refl
 
--- those of the last pass are the setting's last blocks
+-- last blocks that are of the last pass are the setting's last blocks
 pub last_blocks-are : (s : Setting) (lanes : Lanes) → ((lane : ℕ) → lane < s.lanes →
     get_or (lanes lane) (s.segment_length - 1) [] ≡ block_at s (record { pass = s.passes - 1; lane = lane; column = lane_length s - 1 })) →
     last_blocks_in s.lanes s.segment_length lanes ≡ last_blocks s

@@ -1,5 +1,5 @@
-//! The steps of a hash over a caller-provided memory, whatever its contents: four slices of blocks,
-//! each lane after lane.
+//! The steps of a hash over a caller-provided memory, whatever its contents. The memory consists of
+//! four slices of blocks, each stored lane after lane.
 
 ghost use Rattle.std.specs.Prelude.{◌≡◌, ◌≢◌, ℕ, ◌+◌, ◌-◌, ◌*◌, ◌^◌, ◌<◌, ◌≤◌, [], ◌∷◌, length};
 ghost use Rattle.std.specs.List.{fold};
@@ -29,8 +29,8 @@ pub fn begin_segment(job: &Job, lane: u32, own: &mut [Block])
     write_first_block(job, lane, 1, &mut own[1]);
 }
 
-/// The place of a lane's first block in a slice. It is a function of its own, so that it is shown
-/// once that the lane's segment lies within the slice.
+/// The place of a lane's first block in a slice. It is a function of its own, so that one
+/// proof shows that the lane's segment lies within the slice.
 fn place_of_lane(job: &Job, lane: u32) -> usize
     requires { lane < job.now.setting.lanes }
     ensures value { result ≡ lane * job.now.setting.segment_length }
@@ -235,9 +235,9 @@ pub fn finalize_slice(job: &Job, slice: &[Block], out: &mut [u8])
     write_tag(&mut block, out);
 }
 
-/// The hash of a job, computed over a memory that the caller provides whole, slice after slice: the
-/// tag of the length of `out`. The job's pass and slice are ignored. It allocates nothing and always
-/// succeeds.
+/// Writes the tag of a job, as long as `out`, into `out`. The tag is computed over a memory that
+/// the caller provides whole, slice after slice. The job's pass and slice are ignored. The call
+/// allocates nothing and always succeeds.
 pub fn hash_job_over_with<F: SliceFilling>(
     filling: &F,
     job: &Job,

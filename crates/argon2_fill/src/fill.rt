@@ -143,8 +143,8 @@ pub fn fill_sequential(context: &Context<'_>, memory: &mut Memory)
 {
     facts_of_context(context);
     let job = Job::new(context);
-    // Each slice is moved out while it is filled. A `Memory` cannot miss a slice, so all slices
-    // move out here.
+    // Each slice is moved out while it is filled. A `Memory` must have all its slices, so all of
+    // them move out here.
     let mut slices = take_slices(memory);
     fill_slices(&job, &mut slices);
     *memory = memory_of_slices(job.lanes(), job.segment_length(), slices);
@@ -214,8 +214,8 @@ fn fill_lanes(snapshot: &Snapshot<'_>, segments: &mut [Segment])
 /// `uses_sequential` says so, and otherwise by workers. The memory has the context's lanes and lane
 /// length, and the first two blocks of each lane as `initialize` leaves them.
 ///
-/// With workers, it returns `OutOfMemory` if memory is denied, or `WorkerRefused` if a start is.
-/// The memory then has no lanes.
+/// With workers, it returns `OutOfMemory` if memory is denied, or `WorkerRefused` if a worker
+/// cannot be started. The memory then has no lanes.
 pub fn fill_memory_blocks<R: Threads + Wait + Sync>(
     rt: &R,
     alloc: Global,
@@ -252,8 +252,8 @@ fn combine_last_blocks(memory: &Memory, out: &mut Block)
     }
 }
 
-/// Writes the hash of the combined last blocks (RFC 9106, 3.2, step 8), and overwrites these, since
-/// they reveal the tag.
+/// Writes the hash of the combined last blocks (RFC 9106, 3.2, step 8), and overwrites the combined
+/// block, since it reveals the tag.
 pub(crate) fn write_tag(block: &mut Block, out: &mut [u8])
     requires some { 0 < length out.old }
     requires few { length out.old < 2 ^ 32 }
@@ -315,8 +315,8 @@ pub fn tag<R: Threads + Wait + Sync>(
     finalize(alloc, context, memory)
 }
 
-/// The tag of an accepted call, computed in a reusable buffer in the caller's thread: as `tag` does
-/// it, but no worker is started, and blocks that fit are never lost.
+/// The tag of an accepted call, computed in a reusable buffer in the caller's thread. It does what
+/// `tag` does, but it starts no worker, and a memory that fits never loses its blocks.
 pub fn tag_sequential(alloc: Global, context: &Context<'_>, memory: &mut Memory) -> Result<Vec<u8>>
     ensures tag { let c = context.now in
         IfOk result (λ tag. tag.items ≡ tag_of c.pwd.now c.salt.now c.config c.config.hash_length) }

@@ -1,4 +1,4 @@
-//! The matrix, the blocks that fill it, in one thread or by workers, and the tag.
+//! The matrix, its fill in one thread or by workers, and the tag.
 #![tactic(auto)]
 
 pub mod caller_blocks;

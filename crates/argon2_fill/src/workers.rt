@@ -89,9 +89,9 @@ fn fill_slice_by_workers<R: Threads + Wait + Sync, G: Gate, P: Permit>(
     Ok(())
 }
 
-/// Fills all slices of all passes by as many workers as the context's configuration names, which go
-/// through the gate. The memory has the context's lanes and lane length, and the first two blocks
-/// of each lane as `initialize` leaves them.
+/// Fills all slices of all passes by as many workers as the context's configuration names. Each
+/// worker calls the gate. The memory has the context's lanes and lane length, and the first two
+/// blocks of each lane as `initialize` leaves them.
 ///
 /// All memory of a slice is allocated before its first worker starts. If that fails, the call
 /// returns `OutOfMemory`; if a worker cannot be started, `WorkerRefused`. The memory then has no

@@ -155,7 +155,7 @@ module _ (s : Setting) (good : IsSetting s) (pass slice : ℕ) (few : slice < 4)
 
 -- ---- a whole slice
 
--- an entry moves a block of its lane from left to done
+-- an entry moves one block of its lane from the blocks left to the blocks done
 count_moves : (x lane d n blocks : ℕ) → d + (cond (x == lane) 1 0 + n) ≡ blocks → cond (lane == x) (d + 1) d + n ≡ blocks
 count_moves x lane d n blocks h = elim (eqb_tells lane x) [
   | inl w ↦ rw w.0 (let k = rw (eq-eqb x lane (sym w.1)) at h in omega (arith, k))

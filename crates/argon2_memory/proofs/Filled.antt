@@ -25,7 +25,7 @@ use Rattle.argon2_memory.specs.declared.segment.own_blocks.Source.TheVariants.{O
 use Rattle.argon2_memory.specs.Standard.Kept.{no_segment, SegmentValue, segment_in}
 use Rattle.argon2_memory.specs.Views.Memories.{AreSlices}
 
--- ---- one more block of a segment: what it is made of stands where a lane sees it
+-- ---- one more block of a segment: it is made of the blocks that the lane sees
 
 -- a quotient from a bound on the product
 div_below : (c len q : ℕ) → 0 < len → c < q * len → c / len < q
@@ -205,7 +205,7 @@ module _ (v : SnapshotValue) (job : IsJob v.job) (lane index : ℕ) (lane_fits :
 
 -- ---- begin and end
 
--- what stands before a fill
+-- the same as `filled_none`, for a pass and slice equal to the job's
 begin_by : (j : Job) → (pass slice : ℕ) → pass ≡ j.pass → slice ≡ j.slice → IsSetting j.setting → (lane : ℕ) (blocks : List (List ℕ)) →
     IsReady j.setting pass slice lane blocks → IsFilledTo j lane (cond ((pass == 0) && (slice == 0)) 2 0) blocks
 begin_by j zero zero p q good lane blocks ready = record {
@@ -276,7 +276,7 @@ pub source_in_front : (xs zs : List (List ℕ)) (index : ℕ) (source : Source) 
 source_in_front xs zs index (Own k) h before = sym (get_or_append_left xs zs [] k (let e : k < index = before in omega (arith, e, h)))
 source_in_front xs zs index (Other block) h before = refl
 
--- a block compressed from two made ones and put among these is put among all
+-- a write among the made blocks, from two sources, is the same write among all blocks
 pub made_in_front : (xs zs all : List (List ℕ)) (index : ℕ) (prev reference : Source) (with_xor : Bool) → xs ++ zs ≡ all → index < length xs →
     IsBefore index prev → IsBefore index reference →
     set xs index (made_block (source_block xs prev) (source_block xs reference) (get_or xs index []) with_xor) ++ zs

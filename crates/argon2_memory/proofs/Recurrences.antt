@@ -41,7 +41,7 @@ setting_that_fits pwd salt config none few fits =
       fits = fits;
     }
 
--- the setting of a context; that its numbers fit is known of the code's types
+-- the setting of a context; the code's types ensure that its numbers fit
 pub context_setting : (x : Context) → x.config.time_cost < 2 ^ 32 → x.memory_blocks < 2 ^ 32 → IsSetting (setting_of_context x)
 context_setting x few fits =
     setting_that_fits x.pwd.now x.salt.now x.config x.accepted few (rw (← x.segment) (omega (arith, x.memory, fits)))
@@ -71,7 +71,7 @@ module _ (P : ℕ × ℕ → Type 0) where
 
 -- ---- which blocks a pick may read
 
--- of the last pass behind the slice, of this pass before it, or of the own lane before the block
+-- of the pass before in a later slice, of this pass in an earlier slice, or of the own lane before the block
 abbrev pub IsReadable : Setting → Position → ℕ → ℕ × ℕ → Type 0
 IsReadable s at lane e =
     ((suc e.0 ≡ at.pass) × ((slice_of s at.column + 1) * s.segment_length ≤ e.1) × (e.1 < lane_length s))
@@ -106,7 +106,7 @@ module _ (s : Setting) (at : Position) (lane : ℕ) where
       (All-append (IsReadable s at lane) _ _ (left-readable at.pass refl) before-readable)
       (own-readable (lane == at.lane) (λ h. eqb-true lane at.lane h)))
 
--- an element of the reference set comes before the block: it is of the last pass, or of this one in an earlier column
+-- an element of the reference set comes before the block: it is of the pass before, or of this one in an earlier column
 abbrev pub IsBefore : Setting → Position → ℕ × ℕ → Type 0
 IsBefore s at e = ((suc e.0 ≡ at.pass) × (e.1 < lane_length s)) ⊎ ((e.0 ≡ at.pass) × (e.1 < at.column))
 
@@ -122,7 +122,7 @@ readable-before s at lane e (inr (inr w)) = inr (w.0, w.2)
 pub length-columns : (pass first end : ℕ) → length (columns_between pass first end) ≡ end - first
 length-columns pass first end = length-map-range_with_len (λ column. (pass, column)) first (end - first)
 
--- past pass 0, a slice's end and the last pass's columns behind it add up to the lane's length
+-- after pass 0, the columns up to a slice's end and the previous pass's columns after it add up to the lane
 pub length-left : (s : Setting) (pass slice : ℕ) → slice < 4 → 0 < pass →
     length (columns_of_last_pass s pass slice) + (slice + 1) * s.segment_length ≡ lane_length s
 length-left s zero slice few h = omega arith
@@ -132,7 +132,7 @@ length-left s (suc last) slice few h =
     let m = mul-le-mul_left s.segment_length b in
     omega (arith, e, m)
 
--- of two, one is left
+-- a list of at least two elements is not empty without its last
 cut_leaves_some : (cut : Bool) (xs : List (ℕ × ℕ)) → 2 ≤ length xs → 0 < length (cond cut (without_last xs) xs)
 cut_leaves_some true xs h = let e = length-take (length xs - 1) xs in omega (arith, e)
 cut_leaves_some false xs h = omega arith
@@ -296,7 +296,7 @@ module _ (s : Setting) (at : Position) (good : IsSetting s) (here : IsPosition s
       same_choice ((at.pass == 0) && nat_lt at.column 2) _ _ _ _ (λ h. refl) (λ h. same_next f g same (not_first at.pass at.column h))
 
 module _ (s : Setting) (good : IsSetting s) where
-  -- past a place's rank one more turn changes nothing
+  -- past a place's rank, unrolling further changes nothing
   same_unrolled : (n m : ℕ) (at : Position) → IsPosition s at → rank s at < n → rank s at < m → unroll s n at ≡ unroll s m at
   unfolding unroll
   same_unrolled zero m at here low low' = absurd (omega arith)

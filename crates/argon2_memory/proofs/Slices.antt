@@ -26,14 +26,14 @@ use Rattle.argon2_standard.specs.Standard.Setting.{Setting}
 
 -- ---- the slices beside the job's
 
--- each has a place among three
+-- each slice has an index below three among the others
 pub rank_fits : (j : Job) → j.slice < 4 → (k : ℕ) → k < 4 → rank_among j k < 3
 rank_fits j few k h = elim (cases_lt k j.slice) [
   | inl w ↦ rw (lt-ltb k j.slice w) (omega (arith, w, few))
   | inr w ↦ rw (le-ltb k j.slice w) (omega (arith, h))
 ]
 
--- and stands there once the job's is taken out of four
+-- and is at that index once the job's slice is removed from the four
 pub among-remove : {A : Type 0} (j : Job) (xs : List A) (d : A) → j.slice < length xs → (k : ℕ) → k ≢ j.slice →
     get_or (remove xs j.slice) (rank_among j k) d ≡ get_or xs k d
 among-remove j xs d h k ne = elim (cases_lt k j.slice) [

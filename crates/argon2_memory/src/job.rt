@@ -91,15 +91,15 @@ pub fn facts_of_context(context: &Context<'_>)
     let (_passes, _blocks) = (context.config.time_cost, context.memory_blocks);
 }
 
-/// H0 of a job. A function, since users would see a method of `Job`.
+/// H0 of a job. It is a free function, since a method of `Job` would be visible to users.
 pub fn prehash_of_job(job: &Job) -> [u8; PREHASH_DIGEST_LENGTH]
     ensures { result ≡ job.now.setting.prehash }
 {
     job.prehash
 }
 
-/// The job of the first slice of the first pass, for a setting that is given by numbers. A
-/// function, since users would see a method of `Job`.
+/// The job of the first slice of the first pass, for a setting that is given by numbers. It is
+/// a free function, since a method of `Job` would be visible to users.
 pub fn job_of_setting(
     prehash: &[u8; PREHASH_DIGEST_LENGTH],
     variant: Variant,

@@ -16,8 +16,8 @@ use std::marker::Model;
 use std::ops::Index;
 use std::{fmt, mem};
 
-/// Four slices, each with a segment for each lane. They are apart, so that one can be moved out and
-/// written while the others are read, in one thread or in many.
+/// Four slices, each with a segment for each lane. Each is a vector of its own, so that one can be
+/// moved out and written while the others are read, in one thread or in many.
 pub type Slices = [Vec<Segment>; 4];
 
 /// Moves a slice out, and leaves an empty one in its place. No block is copied.
@@ -126,7 +126,7 @@ fn tally(slices: &Slices) -> u64
 /// The matrix of blocks of 1 KiB: a row for each lane. Column c of a lane of 4 L columns is the
 /// block at index c mod L of the lane's segment in slice c / L (RFC 9106, 3.4).
 ///
-/// When it is dropped, its blocks are overwritten with zeros first: whoever reads them can try
+/// Dropping it overwrites its blocks with zeros, since anyone who reads the blocks can try
 /// passwords at a lower cost.
 pub struct Memory {
     lanes: u32,
@@ -282,8 +282,8 @@ impl Memory {
     }
 }
 
-/// Moves all slices out, and leaves a memory without lanes. Nothing overwrites slices that
-/// are dropped by themselves.
+/// Moves all slices out, and leaves a memory without lanes. A slice that is dropped
+/// outside a `Memory` is not overwritten.
 pub fn take_slices(memory: &mut Memory) -> Slices
     ensures slices { map (λ v. v.items) result ≡ memory.old.slices }
     ensures memory { IsMemory memory.old }

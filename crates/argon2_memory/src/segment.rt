@@ -1,4 +1,4 @@
-//! A segment, the blocks of one lane in one slice, and how it is filled.
+//! A segment (the blocks of one lane in one slice), and how it is filled.
 
 mod filling;
 mod other_blocks;

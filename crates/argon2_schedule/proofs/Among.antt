@@ -1,6 +1,5 @@
--- At the machine's model with threads, from any memory and under every scheduler: if a call of a
--- proved function returns, its `ensures` holds of the returned value. The arguments are plain
--- values.
+-- If a call of a proved function returns, its `ensures` holds of the returned value. This is shown in the machine's
+-- model with threads, from any memory and under every scheduler. The arguments are plain values.
 --     every_schedule      by the toolchain's `host_runs`, for a host that calls the function and returns what it returned
 -- Assumes nothing.
 use mathlib.Core.Path.{◌≡◌, subst}

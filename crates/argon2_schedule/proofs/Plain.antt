@@ -24,7 +24,7 @@ use Rattle.std.proofs.rt.LibcRuntime.TheLaws
 use Rattle.argon2_schedule.specs.Answers.{Inputs}
 use Rattle.argon2_schedule.specs.Schedules.{AreInputs, AreBytes, FitArray, Runtime, byte_vals}
 
--- a type, a value of it and its machine values, which show that it is one
+-- a type, a value of it, and machine values that represent the value and own nothing
 pub record Plain : Type 2 where
   pub type : RattleType
   pub value : type.Denot

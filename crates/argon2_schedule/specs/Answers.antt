@@ -65,8 +65,7 @@ config_at x secret ad = record {
 abbrev pub Anywhere : List ℕ → List ℕ → (Bor (List ℕ) → Bor (List ℕ) → Type 0) → Type 0
 Anywhere secret ad Fact = (s a : Bor (List ℕ)) → s.now ≡ secret → a.now ≡ ad → Fact s a
 
--- the error of the settings table or, if there is none, what `made` makes of the tag or a resource
--- error
+-- the error of the settings table or, if there is none, either a resource error or what `made` makes of the tag
 abbrev pub Returns : Inputs → (Config → List ℕ → List ℕ) → Result (List ℕ) Error → Type 0
 Returns x made answer = Anywhere x.secret x.ad (λ s a. let config = config_at x s a in
     IsHash x.pwd x.salt config (may_lack_workers config) (λ value tag. value ≡ made config tag) answer)

@@ -17,9 +17,9 @@ use Rattle.std.specs.contracts.rt.LibcRuntime
 use Rattle.argon2.specs.declared.limits.Limits.{Limits}
 use Rattle.argon2_schedule.specs.Answers.{Inputs, Stored}
 
--- In every program that has this code, from any memory and under every scheduler, the run of a host
--- that makes this call once is finite and no thread faults. Where it stops, the call has returned a
--- machine value for which the fact holds, or no two threads are about to race and some thread can
+-- A host program makes this call once. In every program that has this code, from any memory and under every scheduler,
+-- the run of the host is finite and no thread faults. The scheduler may halt the run in any state. In that state the
+-- call has returned a machine value for which the fact holds, or no two threads are about to race and some thread can
 -- run, waits or sleeps. The process does not exit.
 abbrev pub EverySchedule : Code → Callee → List Val → (Val → Type 0) → Type 0
 EverySchedule code callee arguments Fact = (look : Symbol → Entry) → HasT look true code
@@ -40,7 +40,7 @@ pub record FitArray (bytes : List ℕ) : Type 0 where
   pub are : AreBytes bytes
   pub fit : length bytes < 2 ^ 63
 
--- each byte and each number is one of its type
+-- each byte and each number is in the range of its type
 pub record AreInputs (x : Inputs) : Type 0 where
   pub pwd : FitArray x.pwd
   pub salt : FitArray x.salt

@@ -1,5 +1,5 @@
-//! The call that fills each lane of each slice in a thread of its own, on a job in numbers that are
-//! passed by value.
+//! The call that fills each lane of each slice in a thread of its own. Its job is given as numbers
+//! that are passed by value.
 
 ghost use Rattle.std.specs.Prelude.{◌≡◌, ◌<◌, ◌^◌};
 ghost use Rattle.argon2_memory.specs.Views.Jobs.{IsSetting};
@@ -15,7 +15,8 @@ use std::array;
 use std::marker::Sync;
 use std::thread::Threads;
 
-/// The tag that `hash_job_over_by_threads` writes over N blocks, and the runtime.
+/// Returns the tag that `hash_job_over_by_threads` computes over N blocks. It also returns the
+/// runtime.
 pub fn hash_job_by_value<const N: usize, const T: usize, R: Threads + Sync>(
     rt: R,
     prehash: [u8; 64],

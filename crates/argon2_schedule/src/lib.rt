@@ -1,6 +1,6 @@
-//! The root calls that may start workers, on inputs and settings that are passed by value. So the
-//! machine value that such a call returns holds the whole answer, and a theorem about every
-//! schedule of the machine's model can speak of it.
+//! The root calls that may start workers, with inputs, settings and answers passed by value. The
+//! machine value that such a call returns therefore holds the whole answer, so that a theorem about
+//! every schedule of the machine's model can describe the answer.
 #![tactic(auto)]
 
 pub mod jobs;
@@ -50,7 +50,7 @@ fn version_of(newest: bool) -> Version
     }
 }
 
-/// As many workers as lanes for 0, else at most this many.
+/// For 0, as many workers as lanes. For any other number, at most that many.
 fn mode_of(threads: u32) -> ThreadMode
     ensures { result ≡ mode_at threads }
 {
@@ -71,7 +71,7 @@ fn array_of<const N: usize>(bytes: &[u8]) -> [u8; N]
     array
 }
 
-/// The tag that `hash_raw` returns, in an array, or its error; and the runtime.
+/// Returns the tag that `hash_raw` returns, in an array, or its error. It also returns the runtime.
 pub fn hash_raw_by_value<
     const P: usize,
     const S: usize,

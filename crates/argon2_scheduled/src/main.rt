@@ -1,5 +1,5 @@
 //! Makes each call by values with workers, on the inputs of RFC 9106, section 5.3, and prints what
-//! it returns: a program that has the code which the theorems about these calls assume.
+//! it returns. This program contains the code that the theorems about these calls assume.
 #![tactic(auto)]
 
 use argon2_schedule::jobs::hash_job_by_value;

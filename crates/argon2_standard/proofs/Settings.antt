@@ -37,7 +37,7 @@ none_applies [] h = tt
 none_applies ((true, refusal) ∷ rows) h = absurd (let e : true ≡ false = h in cc)
 none_applies ((false, refusal) ∷ rows) h = (refl, none_applies rows h)
 
--- a number that is told not to be 0 is greater than 0
+-- a number for which `== 0` is false is greater than 0
 some : (n : ℕ) → (n == 0) ≡ false → 0 < n
 some n h = elim (eqb_tells n 0) [ inl w ↦ absurd (cc (w.0)) | inr w ↦ omega (arith, w.1) ]
 
@@ -65,7 +65,7 @@ accepted config p s h none =
       hash_fits = ltb-false max_length h long;
     }
 
--- a length that is told not to be too great has 32 bits
+-- a length for which the test of being too great is false fits 32 bits
 length_fits : (n : ℕ) → ltb max_length n ≡ false → Fits w32 n
 length_fits n e = let few = ltb-false max_length n e in record { fits = omega arith }
 

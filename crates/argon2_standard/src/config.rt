@@ -22,8 +22,8 @@ pub struct Config<'a> {
     /// The number of lanes, 1 to 2^24 - 1.
     pub lanes: u32,
 
-    /// The memory in KiB, at least 8 a lane. What is filled is rounded down to a multiple of 4 KiB
-    /// a lane.
+    /// The memory in KiB, at least 8 a lane. The memory that is filled is this number, rounded down
+    /// to a multiple of 4 KiB a lane.
     pub mem_cost: u32,
 
     /// The secret, up to 2^32 - 1 bytes.
@@ -102,16 +102,16 @@ impl<'a> Config<'a> {
         preset(Variant::Argon2id, 7168, 5)
     }
 
-    /// RFC 9106's first recommendation (section 4): Argon2id, 2 GiB, 1 pass. It has one lane, where
-    /// the RFC has four, as in rust-argon2.
+    /// RFC 9106's first recommendation (section 4): Argon2id, 2 GiB, 1 pass. It has one lane, as in
+    /// rust-argon2. The RFC has four.
     pub fn rfc9106() -> Config<'a>
         ensures { IsPreset Argon2id 2097152 1 result }
     {
         preset(Variant::Argon2id, 2097152, 1)
     }
 
-    /// RFC 9106's recommendation for little memory (section 4): Argon2id, 64 MiB, 3 passes. It has one
-    /// lane, where the RFC has four, as in rust-argon2.
+    /// RFC 9106's recommendation for little memory (section 4): Argon2id, 64 MiB, 3 passes. It has
+    /// one lane, as in rust-argon2. The RFC has four.
     pub fn rfc9106_low_mem() -> Config<'a>
         ensures { IsPreset Argon2id 65536 3 result }
     {
@@ -131,7 +131,7 @@ impl<'a> Config<'a> {
     }
 
     /// How many workers fill a slice: one for each lane with `Parallel`, no more than the given
-    /// number with `AtMost`, and 1 where the caller's thread fills all lanes.
+    /// number with `AtMost`, and 1, the caller's thread itself, where that thread fills all lanes.
     pub fn workers(&self) -> u32
         ensures { result ≡ workers_of self.now }
     {

@@ -1,4 +1,4 @@
-//! The settings table, and the inputs of an accepted call with H0, the hash of them.
+//! The settings table, the inputs of an accepted call, and H0, the hash of these inputs.
 
 ghost use Rattle.std.specs.Prelude.{◌≡◌, ◌*◌, ◌/◌, ◌^◌, ◌<◌, ℕ, List, length, IsNone, IsOkAnd, MatchOption};
 ghost use Rattle.std.specs.Borrow.{Bor};
@@ -149,8 +149,8 @@ impl<'a> Context<'a> {
     }
 }
 
-/// The context of settings that were checked and accepted before. The verifying calls check them
-/// for the hash's own length, and come here without a second check.
+/// The context of settings that were checked and accepted before. The verifying calls check the
+/// settings for the length of the hash that they verify, and then call this without a second check.
 #[tactic(auto, unfolding(crate::specs::Standard::SettingsTable::table_error))]
 pub fn accepted_context<'a>(config: Config<'a>, pwd: &'a [u8], salt: &'a [u8]) -> Context<'a>
     requires { IsNone (table_error config (length pwd.now) (length salt.now) config.hash_length) }
@@ -173,7 +173,7 @@ pub fn accepted_context<'a>(config: Config<'a>, pwd: &'a [u8], salt: &'a [u8]) -
     }
 }
 
-/// H0 of a context. A function, since users would see a method of `Context`.
+/// H0 of a context. It is no method of `Context`, since users would see the method.
 pub fn prehash_of_context(context: &Context<'_>) -> [u8; PREHASH_DIGEST_LENGTH]
     ensures { let c = context.now in
         result ≡ prehash_of c.pwd.now c.salt.now c.config c.config.hash_length }
@@ -181,8 +181,9 @@ pub fn prehash_of_context(context: &Context<'_>) -> [u8; PREHASH_DIGEST_LENGTH]
     context.prehash
 }
 
-/// Tells the prover how many workers may fill a slice: at least one, and fewer than 2^24. This is
-/// about a context, since only accepted settings have these bounds. It does nothing else.
+/// Tells the prover how many workers may fill a slice: at least one, and fewer than 2^24. The
+/// argument is a context, since only accepted settings have these bounds. The function does nothing
+/// else.
 #[tactic(auto, using(crate::proofs::Settings::accepted, crate::proofs::Settings::workers_fit))]
 pub fn facts_of_workers(context: &Context<'_>)
     ensures some { 0 < workers_of context.now.config }

@@ -47,13 +47,13 @@ pub enum Error {
     /// The number of passes is 0.
     TimeTooSmall,
 
-    /// Never returned: each number of passes that a `u32` holds is allowed.
+    /// Never returned: no number of passes that a `u32` holds is too large.
     TimeTooLarge,
 
     /// The memory cost is below 8 KiB, or below 8 KiB a lane.
     MemoryTooLittle,
 
-    /// Never returned: each memory cost that a `u32` holds is allowed.
+    /// Never returned: no memory cost that a `u32` holds is too large.
     MemoryTooMuch,
 
     /// The number of lanes is 0.

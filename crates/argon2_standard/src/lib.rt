@@ -1,5 +1,5 @@
-//! What Argon2 is: the types that users write, the settings table and the inputs that it accepts, and
-//! the definitions that the clauses of the root calls rest on.
+//! What Argon2 is: the types of the settings, the settings table and the inputs that it accepts,
+//! and the definitions that the contracts of the root calls (`argon2::NAME`) rest on.
 #![tactic(auto)]
 
 pub mod config;

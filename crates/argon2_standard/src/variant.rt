@@ -10,18 +10,18 @@ use crate::result::Result;
 use argon2_blocks::basics::eq;
 use std::fmt;
 
-/// The variant of Argon2 (RFC 9106, 1 and 3.2): where a block's reference is drawn from. Variants
-/// are ordered by their numbers.
+/// The variant of Argon2 (RFC 9106, 1 and 3.2): whether the contents of blocks decide which block a
+/// new block refers to. Variants are ordered by their numbers.
 #[derive(Clone, Copy, Debug, Eq, PartialEq, PartialOrd, Ord)]
 pub enum Variant {
-    /// References are drawn from the blocks: for uses that side channels do not threaten.
+    /// References depend on the contents of blocks: for uses that side channels do not threaten.
     Argon2d = 0,
 
-    /// References are drawn from no block.
+    /// References do not depend on the contents of blocks.
     Argon2i = 1,
 
-    /// References are drawn from no block in the first half of the first pass, and from the blocks
-    /// after it. The one to choose for passwords.
+    /// References do not depend on the contents of blocks in the first half of the first pass.
+    /// After that they do. The variant to choose for passwords.
     Argon2id = 2,
 }
 

@@ -1,7 +1,7 @@
-//! Tests that take minutes with the checks of `rt try`: the original documentation's example with
-//! its own settings, 64 MiB in 10 passes, and all lengths and numbers of lanes up to some limits.
-//! Contracts say which value is returned. None says that there is no resource error if nothing is
-//! denied.
+//! Tests that take minutes with the checks of `rt try`: the example of rust-argon2's documentation
+//! with its own settings, 64 MiB in 10 passes, and all lengths and numbers of lanes up to some
+//! limits. Contracts say which value is returned. None says that there is no resource error if
+//! nothing is denied.
 
 ghost use Rattle.std.specs.Prelude.{◌<◌};
 
@@ -17,17 +17,17 @@ use std::sync::Wait;
 use std::test::Fail;
 use std::thread::Threads;
 
-/// The greatest length of an input and of a hash.
+/// All lengths of an input and of a hash below this number are tried.
 const LONGEST: usize = 1001;
 
 const BYTES: [u8; LONGEST] = [b'x'; LONGEST];
 
-/// The greatest lengths of a password and of a salt that are tried with each other.
+/// How many lengths of a password, from 0, and of a salt, from 8, are tried with each other.
 const LONGEST_OF_PAIRS: usize = 48;
 
 const MOST_LANES: u32 = 401;
 
-/// With more lanes than this, verifying takes long too.
+/// From this number of lanes on, only hashing is tried, since verifying takes long.
 const FEW_LANES: u32 = 40;
 
 /// A pass over the least memory.

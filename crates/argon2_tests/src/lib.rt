@@ -1,6 +1,6 @@
-//! Tests of public calls, over `argon2` alone, and the calls that CI (refusals) runs with
-//! each allocation and each start of a worker denied in turn. What takes minutes with the checks of
-//! `rt try` is not in `tests`, so that a quick check leaves it to CI.
+//! Tests of public calls, which use the crate `argon2` alone. CI (refusals) runs some of them with
+//! each allocation and each start of a worker denied in turn. Tests that take minutes with the
+//! checks of `rt try` are not in `tests`, so that a quick check leaves them to CI.
 #![tactic(auto)]
 
 #[cfg(test)]

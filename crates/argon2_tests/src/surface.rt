@@ -1,5 +1,6 @@
-//! What a crate uses through `argon2` alone: an item of each public module, whose contract is proved
-//! anew as a clause here. Its definitions are cited from the crates that have them.
+//! An item of each public module, used by a crate that depends on `argon2` alone. The contract of
+//! each item is proved again here, as a clause. Its definitions are cited from the crates that have
+//! them.
 
 ghost use Rattle.std.specs.Prelude.{◌≡◌, ◌^◌, ◌-◌, ◌<◌, ◌≤◌, ◌↔◌, IfNone, IfOk, IsTrue, length, None, Some};
 ghost use Rattle.std.specs.List.{flat_map};

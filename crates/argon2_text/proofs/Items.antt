@@ -36,13 +36,13 @@ use Rattle.argon2_standard.specs.declared.config.Config.{Config}
 
 -- ---- base64 of bytes: no `$`, one string for each, and its length
 
--- at each place, and past the end
+-- a list that lacks c has no c at any place, nor past its end, where 0 is read
 symbol_lacks : (c : ℕ) (t : List ℕ) (i : ℕ) → 0 ≢ c → Lacks c t → get_or t i 0 ≢ c
 symbol_lacks c [] i zero_other h = zero_other
 symbol_lacks c (x ∷ t) zero zero_other h = h.0
 symbol_lacks c (x ∷ t) (suc i) zero_other h = symbol_lacks c t i zero_other h.1
 
--- bytes that are encoded with symbols of which none is c lack c
+-- if no symbol is c, the encoding of bytes with these symbols lacks c
 encode_lacks : (c : ℕ) (t m : List ℕ) → ((i : ℕ) → get_or t i 0 ≢ c) → Lacks c (encode_symbols t m)
 unfolding encode_symbols
 encode_lacks c t [] h = tt
@@ -102,7 +102,7 @@ slice_decoded dec s bytes pad allow mode len none is fits groups =
     let end : nat_lt len len ≡ false = le-ltb len len (omega arith) in
     rw (both.0, room, both.1, is, fits, end) refl
 
--- what the crate writes of an item to a buffer of just its length is its bytes
+-- what crate `base64` decodes of an item into a buffer of exactly its length is the bytes of the item
 pub item_filled : (text old new : List ℕ) (r : Result ℕ DecodeSliceError) → IsSomeItem text → length old ≡ 3 * length text / 4
     → r ≡ decode_slice_of standard_no_pad text (length old) → OnOk r (IsWrittenOver (decoded_bytes_of standard_no_pad text) old new)
     → (r ≡ Ok (length old)) × IsItem text new
@@ -177,13 +177,13 @@ pieces_unique text p q d e cut_p head_p cut_q head_q =
     let both = sym (head_cut text p d cut_p head_p) ∙ head_cut text q e cut_q head_q in
     cc
 
--- what is not cut has no head
+-- a string in which `pieces_of` finds no pieces has no head
 pub no_head : (text : List ℕ) → None ≡ pieces_of text → HasSplit text → ⊥
 no_head text none (p, d, cut, head) =
     let e = none ∙ head_cut text p d cut head in
     cc
 
--- what is cut has the head of its pieces
+-- a string in which `pieces_of` finds pieces, and which has a head, has the head of these pieces
 pub head_at : (text : List ℕ) (p : Pieces) → Some p ≡ pieces_of text → HasSplit text → (d : Spelled) × IsHead p d
 head_at text p some (q, d, cut, head) =
     let e = some ∙ head_cut text q d cut head in
@@ -208,7 +208,7 @@ saltless text h head none d s = none (d.salt, (items_at text h d head s).0)
 pub hashless : (text : List ℕ) (h : Head) → IsHeadOf text h → (IsSomeItem h.hash.now → ⊥) → SpellsNothing text
 hashless text h head none d s = none (d.hash, (items_at text h d head s).1)
 
--- with both it decodes to a value
+-- a string whose salt and hash are items decodes to a value
 pub spelling_at : (text : List ℕ) (h : Head) → IsHeadOf text h → IsSomeItem h.salt.now → IsSomeItem h.hash.now → IsSpellingOf text h
 spelling_at text h head (salt, salt_item) (hash, hash_item) = (
   salt,

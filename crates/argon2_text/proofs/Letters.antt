@@ -63,7 +63,7 @@ letter_from byte small none =
 pub base64-symbols : (bytes : List ℕ) → base64 bytes ≡ encode_symbols alphabet bytes
 base64-symbols bytes = append-nil (encode_symbols alphabet bytes)
 
--- no bytes have no symbols
+-- the empty list of bytes has no symbols
 no_symbols : [] ≡ encode_symbols alphabet []
 unfolding encode_symbols
 no_symbols = refl

@@ -14,7 +14,8 @@ use Rattle.std.specs.Str.Parse.{IsNumeral, AllDigits, ParsesUnsigned, digits_val
 use Rattle.std.specs.Result.{result_ok}
 use Rattle.std.proofs.lemmas.Str.Parse.{digit_from_value, without_leading_plus_none, without_leading_plus_plus}
 
--- ---- cutting at a byte and behind a front, both ways, and what std's methods give in these words
+-- ---- cutting a string at a byte and after a front, joining the parts again, and the results of std's methods as
+-- results of `cut` and `strip`
 
 -- ---- Lacks, by places
 
@@ -82,7 +83,7 @@ cut_at mark (b ∷ text) zero lt is before = rw (eq-eqb b mark is) refl
 cut_at mark (b ∷ text) (suc at) lt is before =
     rw (ne_eqb b mark (before 0 (omega arith)), cut_at mark text at (omega arith) is (λ i small. before (suc i) (omega arith))) refl
 
--- a list that is told to hold no c lacks c
+-- a list for which the test `list_any` finds no c lacks c
 pub any_lacks : (c : ℕ) (bs : List ℕ) → list_any (λ b. b == c) bs ≡ false → Lacks c bs
 any_lacks c [] h = tt
 any_lacks c (b ∷ bs) h =
@@ -211,7 +212,7 @@ pieces-again p clean =
       cut-again 36 p.salt p.hash clean.salt,
     ) refl
 
--- each step's string, in that of the step before it
+-- if the string of each step contains that of the next step, the first string is the nested pieces
 nested_from : (p : Pieces) (text after_name after_version after_memory after_time after_lanes : List ℕ) → text ≡ codes "$" ++ (p.name ++ 36 ∷ after_name)
     → after_name ≡ version_front p.version after_version → after_version ≡ codes "m=" ++ (p.memory ++ 44 ∷ after_memory)
     → after_memory ≡ codes "t=" ++ (p.time ++ 44 ∷ after_time) → after_time ≡ codes "p=" ++ (p.lanes ++ 36 ∷ after_lanes)
@@ -306,7 +307,7 @@ number_gives text (Err e) h = λ n number.
     let small : digits_value 10 number.digits < 2 ^ 32 = rw number.value number.fits in
     h (rw read (number.decimal, small))
 
--- so do digits that are read one by one
+-- the same for digits that are read one by one, without `parse`
 pub number_of_digits : (text ds : List ℕ) (r : Option ℕ) → without_leading_plus text ≡ ds
     → MatchOption r (IsNumeral 10 ds → digits_value 10 ds < 2 ^ 32 → ⊥) (λ n. IsNumeral 10 ds × (digits_value 10 ds ≡ n) × (n < 2 ^ 32))
     → MatchOption r (IsNoNumber text) (IsNumber text)

@@ -22,12 +22,12 @@ use Rattle.argon2_text.proofs.Items.{length-base64}
 
 -- ---- buffers that are filled piece by piece
 
--- a buffer that a piece fills to its end is what was before and that piece, or what equals it
+-- a buffer that a piece fills to its end is what was before and then that piece, or a list equal to the piece
 pub all_put : (before new piece same : List ℕ) (end : ℕ) → take end new ≡ before ++ piece → end ≡ length new → piece ≡ same → new ≡ before ++ same
 all_put before new piece same end front whole is =
     sym (take_all end new (omega (arith, whole))) ∙ front ∙ ap (λ (x : List ℕ). before ++ x) is
 
--- where a rest was cut in two and f of its first part was put, f of the second part makes up f of the rest
+-- if a rest is cut in two and f of its first part was put, f of its second part, put next, completes f of the rest
 pub put_ahead : (f : List ℕ → List ℕ) (before new piece rest group behind : List ℕ) (n end : ℕ) → take end new ≡ before ++ piece → piece ≡ f group
     → group ≡ take n rest → behind ≡ drop n rest → f (group ++ behind) ≡ f group ++ f behind → take end new ++ f behind ≡ before ++ f rest
 put_ahead f before new piece rest group behind n end front is first second parts =
@@ -37,7 +37,7 @@ put_ahead f before new piece rest group behind n end front is first second parts
 
 -- ---- a written string is ASCII
 
--- bytes that are told to be below 128 are ASCII
+-- bytes for which the test `list_all` says that they are below 128 are ASCII
 pub told : (bs : List ℕ) → list_all (λ b. nat_lt b 128) bs ≡ true → IsAscii bs
 told [] h = IsAscii-nil
 told (b ∷ bs) h =

@@ -1,4 +1,5 @@
--- How the types and the steps of the code look to contracts. No clause of a root call uses them.
+-- How the types and the steps of the code look to contracts. No contract of a root call (`argon2::NAME`)
+-- uses these definitions.
 pub mod Faults
 pub mod Cutting
 pub mod Letters

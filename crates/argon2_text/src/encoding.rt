@@ -81,8 +81,8 @@ pub fn decode_string(alloc: Global, encoded: &str) -> Result<Decoded>
 }
 
 /// What an encoded hash with this head decodes to, if its salt and its hash are base64. If memory
-/// cannot be allocated, the call returns `OutOfMemory`. It is apart, so that the settings can be
-/// checked before this allocates.
+/// cannot be allocated, the call returns `OutOfMemory`. Reading the head is a call of its own, so
+/// that the settings can be checked before this call allocates.
 pub fn decode(alloc: Global, head: &Head<'_>) -> Result<Decoded>
     requires salt { IsSomeItem head.now.salt.now }
     requires hash { IsSomeItem head.now.hash.now }

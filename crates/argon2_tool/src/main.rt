@@ -1,4 +1,4 @@
-//! The tool that the shell's script runs: the commands of `argon2`, and those for passwords, within
+//! The tool that the shell script runs: the commands of `argon2`, and `new` and `check`, which have
 //! limits.
 #![tactic(auto)]
 

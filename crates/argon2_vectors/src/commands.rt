@@ -8,9 +8,9 @@
 //! | `run/stuck ROOM WORDS` | the input `password`; the output and the error stream take so many bytes, and then none, without a failure |
 //! | `run/without_memory WORDS` | the input `password`, and an output without memory |
 //! | `run/fails_once STEP REASON WORDS` | the input `password`, and an output whose first `write` or `flush` fails, for want of `memory` or for `another` reason |
-//! | `start ARGUMENT..` | the input `password`: the arguments, with the program's name, are checked first |
+//! | `start ARGUMENT..` | the input `password`; the process's arguments, its name first, are checked before the run |
 //! | `tool INPUT WORDS`, `tool/broken`, .. `tool/start` | the same of the shell's tool |
-//! | `arguments ARGUMENT..` | none: the answer is these words, each after how often it is repeated in a row |
+//! | `arguments ARGUMENT..` | none: the answer is the number of words, then each word after its count in a row |
 //!
 //! The answer of a run is its status, and what it wrote to the output and to the error stream. The
 //! answer of a start is without the status. An argument is bytes, as in `line`; a number and `*` before

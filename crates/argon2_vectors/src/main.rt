@@ -1,6 +1,6 @@
-//! Answers questions on public calls, one a line of standard input, so that rows of tests are data. A
-//! line is the name of a call and its words, with single blanks between them. docs/CLAIMS.md says
-//! where the answers in this crate's `stdout` come from.
+//! Answers questions about public calls, so that rows of tests are data. Standard input has one
+//! question on each line. A line is the name of a call and its words, with single blanks between
+//! them. docs/CLAIMS.md says where the answers in this crate's `stdout` come from.
 //!
 //! | Line | Answer |
 //! |---|---|

@@ -5,8 +5,8 @@ use std::env::{Env, FillError};
 use std::io;
 use std::io::{Error, ErrorKind, Read, Write};
 
-/// A reader of some bytes. A broken one gives them one at a time, so that its failure comes between
-/// two reads.
+/// A reader of some bytes. A broken reader returns one byte at a time and then fails, so that the
+/// failure comes after other reads.
 #[derive(Drop)]
 pub struct Input<'a> {
     pub bytes: &'a [u8],
@@ -32,7 +32,7 @@ impl Read for Input<'_> {
 pub enum Flaw {
     None,
 
-    /// It takes so many bytes before it fails, one at a time, and fails when it is flushed.
+    /// It takes so many bytes, one at a time, and then fails. It also fails when it is flushed.
     Room(usize),
 
     /// It takes so many bytes, one at a time, and then none, but it reports no failure.

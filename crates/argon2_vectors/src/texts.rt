@@ -15,7 +15,7 @@ use std::marker::Sync;
 use std::sync::Wait;
 use std::thread::Threads;
 
-/// The password of encoded hashes that name none.
+/// The password for questions that name none.
 const PASSWORD: &[u8; 8] = b"password";
 
 /// The verdict on an encoded hash and, if it decodes, how its decoded value is encoded again.

@@ -8,8 +8,9 @@
  * The model (crates/argon2_c/specs/Team.antt) must allow each move of a thread; otherwise the move is reported as a
  * fault. The last lines say how often each was made.
  *
- * Threads are run one at a time. Before each part, wait and progress, and after each wake, another may run, at most
- * SWITCHES times. If a thread cannot go on, the caller's does, or else the first that can. */
+ * Threads are run one at a time. Another may run before each part, wait, progress and populating of pages, and after
+ * each wake and the start of a team, at most SWITCHES times. If a thread cannot go on, the caller's does, or else the
+ * first that can. */
 #define _GNU_SOURCE
 #define PROVED_ARGON2_NULL_H /* (the driver's calls are those here) */
 #define PROVED_ARGON2_PASSWORD_H
@@ -39,7 +40,7 @@ static struct {
 } choices[MOST_CHOICES];
 static size_t depth, known;
 
-/* Takes one of some ways: the first, and in later runs each other one. */
+/* Chooses one of `ways` ways: the first and, in later runs, each of the others. */
 static unsigned choose(unsigned ways)
 {
     if (depth == known) {
@@ -554,7 +555,7 @@ uint32_t proved_argon2_job_fill(const proved_argon2_job *passed_job, uint32_t pa
 
 static const uint8_t hash[TAG] = {1, 2, 3, 4}, zeros[TAG];
 
-/* The end of a hash, or of a verdict on what is verified, over blocks that are as they have to be. */
+/* Ends a hash, or a verdict on what is verified. `are_blocks` says whether the blocks are as they have to be. */
 static uint32_t finish(
     const proved_argon2_job *passed_job, const uint8_t *verified, bool are_blocks, uint8_t *tag, size_t len)
 {

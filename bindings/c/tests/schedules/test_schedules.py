@@ -1,7 +1,7 @@
 """Runs a call of the driver for C (bindings/c/src/proved_argon2_driver.c) in every way in which it can go, for some
-lanes, threads and passes, and counts the runs. Each request may be denied, each thread may be, each proved call may
-fail, and the callback may stop or fork; a pool may be wrong in each of four ways. explore_schedules.c says what must
-not come of it, and checks each move of a thread against the proved model (crates/argon2_c/specs/Team.antt). Then each
+lanes, threads and passes, and counts the runs. Each request and each thread may be denied, each proved call may
+fail, and the callback may stop or fork; a pool may be wrong in each of four ways. explore_schedules.c states what must
+hold in each run, and checks each move of a thread against the proved model (crates/argon2_c/specs/Team.antt). Then each
 fault of faults.txt is planted in the driver, and has to be found.
 """
 
@@ -45,7 +45,7 @@ def compiled(source, made):
 
 @pytest.fixture(scope='module')
 def program_over(tmp_path_factory):
-    """What builds the program over a driver with some text, and gives its path."""
+    """A function that builds the program over a driver with some text, and returns the program's path."""
     folder = tmp_path_factory.mktemp('made')
     rest, numbers = compiled(HERE / 'explore_schedules.c', folder / 'explore_schedules.o'), itertools.count()
 

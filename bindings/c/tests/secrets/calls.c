@@ -1,11 +1,11 @@
 /* Makes calls of the library for C over secrets that are marked as undefined. Memcheck marks everything
    computed from them, and reports each branch and each address that depends on it. Lengths, the salt, the
-   associated data, the settings and what is before the hash in a text are public, and stay defined.
+   associated data, the settings and an encoded hash up to its tag are public, and stay defined.
 
    usage: valgrind --tool=memcheck calls <QUESTIONS >ANSWERS
 
    Both are raw structs, so that reading and writing them takes the same instructions for all secrets
-   (test_instructions.py). Without valgrind nothing is marked (test_wiping.py). */
+   (test_instructions.py). Without valgrind, as in test_wiping.py, nothing is marked. */
 #include "proved_argon2.h"
 
 #include <errno.h>
@@ -114,8 +114,8 @@ static void hide_secrets(void)
     hide(&question.fields[VERIFIED].at[question.open], question.fields[VERIFIED].length - question.open);
 }
 
-/* The driver tries out which stack is large enough, with a guard too large to map (room_for_variables). Under
-   valgrind each try fails, whatever the stack. So we reject the guard at once, as musl does. */
+/* The driver tries which stack is large enough, with a guard that is too large to map (room_for_variables). Under
+   valgrind each try returns EINVAL, whatever the stack. So we reject the guard at once, as musl does. */
 int pthread_attr_setguardsize(pthread_attr_t *attributes, size_t size)
 {
     (void)attributes;
@@ -139,5 +139,5 @@ int main(void)
     }
     proved_argon2_memory_free(REUSED.memory, REUSED.memory_len);
     fflush(stdout);
-    _exit(EXIT_SUCCESS); /* (search.c replaces _exit, which exit does not call) */
+    _exit(EXIT_SUCCESS); /* (search.c replaces _exit; exit would not call that) */
 }

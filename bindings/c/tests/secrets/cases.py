@@ -1,6 +1,7 @@
-"""Questions to calls.c from other implementations' vectors, and the expected answers: memcheck reports nothing until a
-tag or a text is computed. The tag, the text's letters or the verdict are still undefined, so no branch depended on
-them.
+"""Questions to calls.c from other implementations' vectors, and the expected answers. Memcheck must report nothing
+until a tag or a text is computed. The tag, the text's letters or the verdict must then still be undefined, which shows
+that no branch chose them.
+
 Each reading of a stored hash has two branches on all its letters: whether they are ASCII, and whether they are base64.
 A block that another block selects is reported at each place that finds or reads it (test_constant_time.py)."""
 
@@ -22,8 +23,8 @@ HASH_RAW, HASH_ENCODED, VERIFY_RAW, VERIFY_ENCODED = range(4)
 WITHIN, PASSWORD_HASH, PASSWORD_VERIFY, HASH_OVER, VERIFY_OVER = range(4, 9)
 OPTIONS = FRESH, REUSED, PROGRESS, THREADS, CALLER = range(5)
 OK, DECODING_FAIL, MISMATCH = 0, 19, 64
-# Only vectors that write at most FEW_BLOCKS are asked, and one with more than MAPPED_BLOCKS in its memory. Each byte of
-# a hash is changed alone if the verdicts cost at most CHEAP.
+# The cases use vectors that write at most FEW_BLOCKS, and one whose memory has more than MAPPED_BLOCKS. Each byte of a
+# hash is changed alone if the verdicts write at most CHEAP blocks.
 FEW_BLOCKS, MAPPED_BLOCKS, CHEAP = 640, 1024, 2048
 # The fewest blocks, and blocks over all passes, for which C starts threads (proved_argon2_driver.c).
 OF_THREADS, IN_ALL_PASSES = 2048, 4096
@@ -89,8 +90,8 @@ class Question(NamedTuple):
         return self.vector.references() if self.code != DECODING_FAIL else 0
 
     def is_right(self, came, reads):
-        """A verdict is hidden, but DECODING_FAIL for a malformed hash is not. Of a tag, every bit is hidden; of
-        an encoded hash, at least one bit of each letter of its tag; and nothing else. Each reference is read at `reads`
+        """A verdict is hidden, but DECODING_FAIL for a malformed hash is not. Every bit of a tag is hidden, and at
+        least one bit of each letter of the tag in an encoded hash; nothing else is. Each reference is read at `reads`
         places."""
         is_read = self.code != DECODING_FAIL
         calls_back = is_read and self.options in (PROGRESS, CALLER)
@@ -142,12 +143,12 @@ def verdicts(vector):
 
 
 def stored(text):
-    """A text as version 16 may also be stored: without its version."""
+    """A text without its version, as hashes of version 16 may also be stored."""
     return text.replace(b'$v=16', b'')
 
 
 def verdicts_on_texts(vector, call=VERIFY_ENCODED):
-    """Also on texts in whose hash the first, the last but one or a drawn byte is no letter."""
+    """Verdicts on texts, also if the first, the last but one or a drawn byte of the hash is no letter."""
     at, text = len(stored(vector.head())), stored(vector.text())
     ends = [(stored(vector._replace(tag=tag).text()), MISMATCH, OF_A_TEXT) for tag in wrong_tags(vector)]
     places = at, len(text) - 2, random.Random(vector.salt).randrange(at, len(text) - 1)
@@ -181,8 +182,8 @@ def rows_of(name):
 
 
 def vectors_of(variant, version):
-    """Those of a variant and a version that have a password or a secret, of lines `VARIANT VERSION T M P LEN PASSWORD
-    SALT SECRET DATA TAG`."""
+    """The vectors of a variant and a version that have a password or a secret. Each line is `VARIANT VERSION T M P LEN
+    PASSWORD SALT SECRET DATA TAG`."""
     return [Vector(VARIANTS.index(variant), *map(int, row[1:6]), *(bytes.fromhex(word.strip('-')) for word in row[6:]))
             for row in rows_of('raw.txt')
             if row[:2] == [variant, str(version)] and len(row) == 11 and (row[6], row[8]) != ('-', '-')]
@@ -200,7 +201,7 @@ def has_threads(vector):
 
 
 def chosen(found, options):
-    """Vectors that write few blocks, and one over a memory that the library maps; or those that it fills by threads."""
+    """Vectors that write few blocks, and one whose memory the library maps. With THREADS: all that start threads."""
     if options == THREADS:
         return [*filter(has_threads, found)]
     few = [vector for vector in found if vector.blocks() <= FEW_BLOCKS]

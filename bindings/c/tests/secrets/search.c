@@ -1,9 +1,9 @@
-/* Preloaded into a program, it looks for pieces of what that computes: at the end in all writable memory, also in the
-   stacks of ended threads that the C library keeps; in each freed block; and at returns of functions below the
-   stack pointer, and above it in the callers' frames. The file PLAN has the number of pieces, the places of
-   calls to leave out and of returns, and the pieces. On standard error it prints how often each piece is found: a row
-   of `found`, the piece, and a number. A Rattle program ends by
-   _exit, which runs no destructor. */
+/* Preloaded into a program, this looks for pieces of what the program computes. At the program's end it searches all
+   private writable memory, with the stacks of ended threads that the C library keeps. It also searches each freed
+   block and, when a listed function returns, the stack below the stack pointer and the callers' frames above it. The
+   file PLAN has the number of pieces, the places of calls to leave out and of returns, and the pieces. On standard
+   error it prints how often each piece is found: a row of `found`, the piece, and a number. It replaces _exit, since a
+   Rattle program ends by _exit, which runs no destructor. */
 #include <fcntl.h>
 #include <link.h>
 #include <malloc.h>
@@ -65,7 +65,7 @@ static void look_everywhere(void)
     }
 }
 
-__attribute__((noreturn)) static void tell_and_exit(int status)
+__attribute__((noreturn)) static void report_and_exit(int status)
 {
     look_everywhere();
     dprintf(STDERR_FILENO, "sought %u\n", plan->count);
@@ -82,7 +82,7 @@ __attribute__((noreturn, naked)) void _exit(int status)
     __asm__("int3");
 }
 
-/* In the first thread, looks. Then returns, as the instruction replaced by the breakpoint would. */
+/* Searches the stack if this is the first thread. Then returns, as the instruction replaced by the breakpoint would. */
 static void stop(int signal, siginfo_t *information, void *context)
 {
     greg_t *const words = ((ucontext_t *)context)->uc_mcontext.gregs;
@@ -90,7 +90,7 @@ static void stop(int signal, siginfo_t *information, void *context)
     size_t number = 0;
     (void)signal;
     (void)information;
-    if (words[REG_RIP] == (greg_t)_exit + 1) tell_and_exit((int)words[REG_RDI]);
+    if (words[REG_RIP] == (greg_t)_exit + 1) report_and_exit((int)words[REG_RDI]);
     while (program + plan->stops[number] != (uint8_t *)words[REG_RIP] - 1)
         number += 1;
     if (gettid() == getpid()) {
@@ -119,7 +119,7 @@ static void change_program(void)
     close(memory);
 }
 
-/* The signal's stack is shared memory. The program has no other, and no shared memory is searched. */
+/* The signal's stack is shared memory, which is not searched. The program has no other shared memory. */
 __attribute__((constructor)) static void begin(void)
 {
     const int file = open(getenv("PLAN"), O_RDONLY);

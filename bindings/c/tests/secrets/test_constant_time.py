@@ -2,11 +2,12 @@
 the letters of a hash. It covers the four calls that hash and verify (also within limits, by threads, and in steps over
 a memory of the caller, who runs their tasks), password_hash and password_verify, in both proved builds of the one
 archive. (valgrind knows no AVX-512. The build for x86-64-v4 differs only in its compression: docs/CLAIMS.md says how
-that is shown to branch on its flag alone and to compute no address.) With Argon2i, none may depend on these on the way
-to a tag, a text or a verdict on a hash, except two branches on the letters of a stored hash. With Argon2d and Argon2id,
-the addresses used to find and read a block that other blocks select may too, but no further branch. Leaks that
-are planted in the library (plant_leak.py) and in its driver have to be reported, or else this sees nothing. calls.c
-makes the calls, of cases.py. depends.txt has what each case may report.
+that is shown to branch on its flag alone and to compute no address.) With Argon2i, no branch or address may depend on
+these before there is a tag, a text or a verdict on a hash, except two branches on the letters of a stored hash. With
+Argon2d and Argon2id, the addresses used to find and read a block that other blocks select may also depend on them, but
+no further branch may. Memcheck must report the leaks that are planted in the library (plant_leak.py) and in its driver;
+otherwise this test shows nothing. calls.c makes the calls, which cases.py lists. depends.txt has what each case may
+report.
 """
 
 import os
@@ -119,7 +120,7 @@ def test_nothing_else_depends_on_secrets(came, row):
 @pytest.mark.parametrize('row', [(cpu, leak, case, options, ((variant, 19),)) for cpu in READS
                                  for leak, (case, options, variant) in LEAKS.items()], ids=named)
 def test_each_leak_is_seen(came, row):
-    """And it is all that goes wrong."""
+    """Memcheck reports a branch or an address, and nothing of another kind."""
     found = came(row)
     kinds = {kind for kind, counts in found.places.items() if counts}
     assert not found.is_right and found.is_ended and set() < kinds <= {BRANCH, ADDRESS}, found.shown()

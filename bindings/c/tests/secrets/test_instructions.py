@@ -22,8 +22,8 @@ from toolchain import is_current
 
 PREFIX, QEMU = 'aarch64-linux-gnu-', 'qemu-aarch64-static'
 SECONDS, LEAST = 600, 100_000  # LEAST: the fewest instructions of a call
-# Sums, exclusive ors, products, shifts, rotations and shuffles, moves, comparisons and jumps. With PSTATE.DIT
-# (not set here), ARM guarantees this, except that addresses of loads and stores may matter.
+# Sums, exclusive ors, products, shifts, rotations and shuffles, moves, comparisons and jumps. ARM guarantees
+# that their time is the same only with PSTATE.DIT, which is not set here, and not for addresses of loads and stores.
 X86 = re.compile(
     r'v?p((add|sub)[bdwq]|and|xor[dq]?|or|ternlog[dq]|ro[lr][dq]'
     r'|mul(udq|ld)|maddwd|(max|min)ud|cmp(eq|gt)[bdq]|s[rl][la]v?[dwq]|shuf[bd]'
@@ -46,8 +46,8 @@ ARM64 = re.compile(
 NEVER_STEADY = 'div divl idiv idivq divsd sqrtsd vdivps udiv sdiv fdiv frecpe fsqrt'.split()
 # Multiplications of the compression: an object without them was not examined.
 PRODUCT = re.compile('v?pmuludq|um(ull|lal)2?')
-# The other instructions, with how many there are: divisions by numbers of the settings. Those of a segment yield the
-# lane that a block selects, which the next reference's address reveals anyhow.
+# The other instructions, with how many there are: divisions by numbers of the settings. Those of fill_caller_segment
+# yield the lane that a block selects, which the next reference's address reveals anyhow.
 DIVIDING = {'accepted_context': 1, 'proved_argon2_memory_len': 1, 'fill_caller_segment': 3}
 # How the names of a build's calls begin in the archive, which has all builds.
 OF_BUILD = re.compile(r'^proved_(?:x86_64_v\d|armv8_a(?:_neon)?)_')
@@ -132,7 +132,7 @@ def test_instructions_of_arm64(arm64):
 
 @pytest.mark.parametrize('call', CALLED)
 @pytest.mark.parametrize('variant', range(len(of.VARIANTS)), ids=of.VARIANTS)
-def test_each_secret_takes_the_same(arm64, variant, call):
+def test_each_secret_runs_the_same_instructions(arm64, variant, call):
     assert len({trace(arm64[0], call, variant, secret) for secret in SECRETS}) == 1
 
 

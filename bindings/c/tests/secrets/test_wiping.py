@@ -1,11 +1,11 @@
-"""Leaves out each wipe alone in the machine code, with nothing after it that clears the stack, and checks that its
-absence is detected.
+"""Leaves out each wipe alone in the machine code, while nothing after it clears the stack, and checks that the missing
+wipe is detected.
 
 A wipe is a call of `wipe` in a program: calls.c with each build of the library for C, and programs in Rattle that make
-the library's calls. With search.c preloaded a program stops at each return of its functions. The wipe counts as missed
-if more pieces are found than with all wipes: below the stack pointer, in callers' frames or freed memory, or at the
-end. Calls of `wipe_stack` are left out meanwhile, and then tested likewise; tests/clearing.c tests the driver's calls
-that clear. wipes.txt lists how many calls of each function are missed, and how many are not.
+the library's calls. With search.c preloaded a program stops at each return of its functions. The absence of a wipe
+is noticed if more pieces are found without it: below the stack pointer, in callers' frames or freed memory, or at the
+end. All calls of `wipe_stack` are left out during this. They are then tested in the same way; tests/clearing.c tests
+the driver's calls that clear. wipes.txt lists for how many calls of each function this is noticed.
 """
 
 import os
@@ -35,17 +35,17 @@ BUILDS = machines()['x86_64'].proved
 SECONDS, PIECE, PIECES, PLACES = 600, 16, 512, 1024
 # The calls, jumps and returns in machine code: the place, and the function that they lead to, without its types.
 BRANCH = re.compile(r'^ +([0-9a-f]+):\t(call|jmp|ret)(?:[^<\n]*<([^+\n]*?)(?:::<[^+\n]*)?>$)?', re.M)
-# What overwrites; what computes over a memory; and what ends a call that has one of its own.
+# What overwrites; what computes over a memory; and what ends a call that has its own memory.
 OVERWRITING = ('argon2_blocks::blake2b::wipe', 'argon2_fill::stack_wiping::wipe_stack', 'proved_driver_overwrite',
                'clear_stack')
 COMPUTING, ENDING = r'argon2::(hashing|verifying)::(texts::)?\w+_in(_sequential)?', 'argon2::ending::release'
-# A function that must leave nothing when it returns: no other check notices what it leaves for only some lanes.
+# A function that must leave nothing when it returns: if it leaves something for some lanes, no other check sees it.
 CLEAN = 'argon2_fill::fill::write_first_block'
 # What calls are passed and write, which may be anywhere; and what they may leave on the stack if nothing clears it.
 OF_CALLER = ('the tag', 'the password')
 MAY_BE_LEFT = ('H0', *OF_CALLER)
 # TRIES: how often a program with threads is run, since a worker that takes no lane leaves nothing, and hides what
-# others left. LOOKS: how often all is repeated if a count differs, since chance leaves pieces in memory only sometimes.
+# others left. LOOKS: how often all is repeated if a count differs, since some pieces stay in memory only by chance.
 TRIES, LOOKS = 9, 6
 # What tests/clearing.c is linked with. Where names are bound late, the loader leaves registers on the stack, and only
 # the driver clears them.
@@ -67,12 +67,12 @@ IN_ONE_LANE, OF_A_CHAIN_IN_ONE_LANE = OURS._replace(lanes=1), OF_A_CHAIN._replac
 COUNT_OF_TESTS, TESTS = 25, re.compile(
     r'^(\S*\b(?:(?:hash_raw|hash_encoded|verify_raw)_(?:by(?:_two)?_workers|in_one_thread|sequential)(?:_argon2id)?'
     r'|verify_encoded(?:_ext|_within)?(?:_sequential)?|\w+_in(?:_sequential)?_twice)_denied_in_turn): test$', re.M)
-# Of each program, and of each function with what it calls: how many calls are missed, and how many are not.
+# By program, and by overwriting function and its caller: how many calls whose absence is noticed, and how many others.
 EXPECTED = defaultdict(dict)
-for programs, callee, functions, missed, others, *why in rows_of(CALLS.parent / 'wipes.txt'):
+for programs, callee, functions, noticed, others, *why in rows_of(CALLS.parent / 'wipes.txt'):
     assert len(why) == (others != '0'), f'{functions} have no reason, or need none'
     for name, function in product(BUILDS if programs == 'builds' else programs.split(' '), functions.split(', ')):
-        EXPECTED[name][callee, function] = int(missed), int(others)
+        EXPECTED[name][callee, function] = int(noticed), int(others)
 pool = ThreadPoolExecutor(os.cpu_count())
 
 
@@ -111,7 +111,7 @@ def blocks_of(vector):
 
 
 class Run(NamedTuple):
-    """A run of a program, what is sought of it, and what of that may be there at its end."""
+    """A run of a program, the pieces that are sought, and which of them may be left at its end."""
     words: list
     input: bytes
     sought: list
@@ -126,8 +126,8 @@ Site = namedtuple('Site', 'callee function at')
 
 
 class Program:
-    """A program and what it is run for; of each function the places of its calls, jumps and returns; the calls of what
-    overwrites; and the returns, each as its function and its place."""
+    """A program and what it is run for; the places of each function's calls, jumps and returns; the calls of functions
+    that overwrite; and the returns, each as its function and its place."""
 
     def __init__(self, name, path, preloaded, runs):
         self.name, self.path, self.preloaded, self.runs, self.code = name, path, preloaded, runs, defaultdict(list)
@@ -147,7 +147,7 @@ class Program:
 
     @contextmanager
     def planned(self, dropped=(), stops=(), sought=()):
-        """The command of the program by a plan of search.c, where its stack is at the same place each time."""
+        """The command that runs the program by a plan of search.c, with its stack at the same place each time."""
         with tempfile.NamedTemporaryFile(dir=self.preloaded.parent) as plan:
             assert len(sought) <= PIECES
             plan.write(struct.pack('<I', len(sought)))
@@ -162,7 +162,7 @@ class Program:
         and below each stop, by its function."""
         where = ['left', 'freed', 'above', *(function for function, _ in stops)]
         for number, one_run in enumerate(runs):
-            # (with threads, the tag and the password are not found equally often)
+            # (with threads, the counts of the tag and the password differ between runs)
             sought = [piece for piece in one_run.sought if not one_run.has_threads or piece[0] not in OF_CALLER]
             with self.planned(dropped, stops, sought) as command:
                 done = subprocess.run([*command, *one_run.words], input=one_run.input, capture_output=True,
@@ -174,27 +174,28 @@ class Program:
                 found[number, where[int(row)], sought[int(piece)][0]] += int(count)
             yield from found.items()
 
-    def missed(self, sites, runs, others, stops):
-        """Calls, and which of them are missed, each left out alone beside the others."""
+    def noticed(self, sites, runs, others, stops):
+        """Each of `sites`, and whether its absence is noticed if it alone is left out in addition to `others`."""
         runs = sorted(runs, key=lambda one_run: not one_run.has_threads)
         tries = [runs] + [[one_run for one_run in runs if one_run.has_threads]] * (TRIES - 1)
         before = dict(self.found(runs, others, stops))
         assert not [place for place in before if place[1] == CLEAN], f'where {CLEAN} returns'
 
-        def is_missed(site):  # (the first run that misses it is enough)
+        def is_noticed(site):  # (one run that finds more pieces is enough)
             return any(count > before.get(place, 0)
                        for these in tries for place, count in self.found(these, [*others, site], stops))
 
-        return [*zip(sites, pool.map(is_missed, sites))]
+        return [*zip(sites, pool.map(is_noticed, sites))]
 
-    def misses(self):
-        """Each call, and whether it is missed. A call of the driver is missed if a check of tests/clearing.c fails."""
+    def each_left_out(self):
+        """Each call, and whether its absence is noticed: for a call of the driver, by a check of tests/clearing.c."""
         if self.runs is None:
             sites = [site for site in self.sites if not site.callee.startswith('wipe')]
             return [*zip(sites, pool.map(self.fails, sites))]
         stacks, alone = self.calls('wipe_stack'), [one_run for one_run in self.runs if not one_run.has_threads]
         ends = [stop for stop in self.returns if stop[0] in {site.function for site in stacks}]
-        return self.missed(self.calls('wipe'), alone, stacks, self.returns) + self.missed(stacks, self.runs, [], ends)
+        return (self.noticed(self.calls('wipe'), alone, stacks, self.returns)
+                + self.noticed(stacks, self.runs, [], ends))
 
     def fails(self, *dropped):
         with self.planned(dropped) as command:
@@ -259,7 +260,7 @@ def rows_of_a_long_password():
 
 
 def runs_of_tests():
-    """The tests of calls in one thread free the blocks as they are, since to overwrite them takes time."""
+    """In the tests of calls in one thread, blocks are freed without being overwritten, since that would take time."""
     names = TESTS.findall(run(program_of('argon2_tests'), '--list'))
     assert len(names) == COUNT_OF_TESTS
     for name in names:
@@ -272,8 +273,8 @@ def runs_of_tests():
 
 def commands(hashing, salt, verifying):
     """What the programs of the command line do: each hashes, with the salt as bytes or in hexadecimal, and verifies; in
-    both versions, since they fill the memory differently. One thread frees the blocks as they are, since to overwrite
-    them takes time."""
+    both versions, since they fill the memory differently. Calls in one thread free the blocks without overwriting
+    them, since that would take time."""
     for mode, version in product(('seq', 'par', 'max2'), (16, 19)):
         words, vector = [hashing, *f'argon2id {version} 2 64 4 32 {mode}'.split(), salt], LONG._replace(version=version)
         freed = blocks_of(vector) if mode == 'seq' else []
@@ -296,7 +297,7 @@ def program_of(crate):
 def judge_program(program):
     """A program may leave only tags and what it was passed, and what it frees. Each call with a memory of its own calls
     `release`. These calls are counted, since a missing one may go unnoticed: what runs next may overwrite the stack
-    that it clears."""
+    that `release` should clear."""
     counts = [[sum(bool(re.fullmatch(name, callee)) for *_, callee in places) for name in (COMPUTING, ENDING)]
               for places in program.code.values()]
     assert any(ended for _, ended in counts)
@@ -337,14 +338,14 @@ def test_what_is_left(program):
 
 
 def test_each_wipe_alone(program):
-    """For each function, in one of LOOKS looks, as many calls are missed, and not missed, as wipes.txt says."""
+    """For each function, in one of LOOKS looks, the absence is noticed of as many calls as wipes.txt says."""
     expected = wrong = EXPECTED[program.name]
     for _ in range(LOOKS):
-        found = Counter((site.callee, site.function, is_missed) for site, is_missed in program.misses())
+        found = Counter((site.callee, site.function, is_noticed) for site, is_noticed in program.each_left_out())
         counts = {(callee, function): (found[callee, function, True], found[callee, function, False])
                   for callee, function, _ in found}
         assert counts.keys() == expected.keys()
         wrong = {place: counts[place] for place in wrong if counts[place] != expected[place]}
         if not wrong:
             break
-    assert not wrong, '(missed, not missed) as found, where it is not as in wipes.txt'
+    assert not wrong, '(noticed, not noticed) as found, where it is not as in wipes.txt'

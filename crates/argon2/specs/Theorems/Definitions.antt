@@ -32,8 +32,8 @@ LengthIsTheHash = (pwd salt : List ℕ) (config : Config) (field len : ℕ) →
     (table_error (record config { hash_length = field }) (length pwd) (length salt) len ≡ table_error config (length pwd) (length salt) len)
     × (tag_of pwd salt (record config { hash_length = field }) len ≡ tag_of pwd salt config len)
 
--- a tag of len bytes has this length. If the settings are accepted, its verdict with the same
--- inputs is true, or a resource error occurs
+-- `tag_of` for length len has len bytes. If the settings are accepted, the verdict on this tag with the same inputs is
+-- true, or a resource error occurs
 abbrev pub OwnTagVerifies : Type 0
 OwnTagVerifies = (pwd salt : List ℕ) (config : Config) (len : ℕ) →
     let tag = tag_of pwd salt config len in

@@ -1,7 +1,7 @@
--- What the definitions give where the answer is known from outside. The contract of `known_answers` states
--- these equations, and the checker computes both sides. The reference sets are written out by hand from
--- RFC 9106, 3.4.2. The word comes from a Python program that follows RFC 9106 line by line and reproduces
--- the three tags of its section 5.
+-- What the definitions give where the answer is known from outside. The contract of `known_answers` states these
+-- equations, and the checker computes both sides. The reference sets are written out by hand from RFC 9106, 3.4.2. The
+-- data-independent word comes from a Python program that follows RFC 9106 line by line and reproduces the three tags of
+-- its section 5.
 use Rattle.std.specs.Prelude.{◌≡◌, ◌+◌, ◌^◌, ℕ, List, [], ◌∷◌}
 use Rattle.argon2_standard.specs.declared.variant.Variant.TheVariants.{Argon2i}
 use Rattle.argon2_standard.specs.declared.version.Version.TheVariants.{Version13}
@@ -24,8 +24,8 @@ two_lanes_of length = record {
 abbrev pub in_lane_0 : ℕ → ℕ → Position
 in_lane_0 pass column = record { pass = pass; lane = 0; column = column }
 
--- the reference set in a lane for the block at this pass and column of lane 0. A segment has two blocks,
--- so the passes 0 and 1 have the columns 0 to 7
+-- the reference set in a lane for the block at this pass and column of lane 0. A segment has two blocks, so a lane has
+-- the columns 0 to 7 in each pass
 abbrev pub reference_set_in : ℕ → ℕ → ℕ → List (ℕ × ℕ)
 reference_set_in pass column lane = reference_set (two_lanes_of 2) (in_lane_0 pass column) lane
 
@@ -62,8 +62,8 @@ LaterPassOtherLane = reference_set_in 1 5 1 ≡ (0, 6) ∷ (0, 7) ∷ (1, 0) ∷
 abbrev pub LaterPassFirstIndex : Type 0
 LaterPassFirstIndex = reference_set_in 1 4 1 ≡ (0, 6) ∷ (0, 7) ∷ (1, 0) ∷ (1, 1) ∷ (1, 2) ∷ []
 
--- the least lower half of a word picks the last of these five places, the greatest the first; the upper
--- half picks the lane
+-- a word with the least lower half picks the last of these five places, and a word with the greatest lower
+-- half picks the first. The upper half picks the lane
 abbrev pub PicksEnds : Type 0
 PicksEnds =
     (pick (two_lanes_of 2) (2 ^ 32) (in_lane_0 1 4) ≡ record { pass = 1; lane = 1; column = 2 })

@@ -22,7 +22,7 @@ use Rattle.argon2_standard.specs.Standard.Grammar.{Spells, dollar}
 abbrev pub SpellsOne : Type 0
 SpellsOne = (text : List ℕ) (d e : Spelled) → Spells text d → Spells text e → d ≡ e
 
--- costs and lanes of 32 bits, and bytes
+-- the costs and the lanes fit 32 bits, and the salt and the hash are bytes
 pub record IsInRange (d : Spelled) : Type 0 where
   pub mem_cost : d.mem_cost < 2 ^ 32
   pub time_cost : d.time_cost < 2 ^ 32

@@ -123,7 +123,8 @@ working_vector h t is_last =
     let v13 = slice_set v12 13 (bit_xor (slice_index v 13) (t / 2 ^ 64 % 2 ^ 64)) in
     if is_last then slice_set v13 14 (bit_not w64 (slice_index v 14)) else v13
 
--- F: the state h after a block of sixteen words m, where t bytes of the message came so far (3.2)
+-- F: the state h after a block of sixteen words m, where t is the number of message bytes so far, with
+-- those of this block (3.2)
 unfoldable pub compress_f : List ℕ → List ℕ → ℕ → Bool → List ℕ
 compress_f h m t is_last =
     let start = working_vector h t is_last in

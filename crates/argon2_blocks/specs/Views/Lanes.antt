@@ -1,4 +1,4 @@
--- The vectors of the compression, lane by lane, and spread.
+-- The vectors of the compression: lane by lane, and as rows and columns that are spread over them.
 use Rattle.std.specs.Prelude.{ℕ, ◌+◌, ◌*◌, List, [], ◌∷◌, ◌++◌, map, slice_index, slice_index_or, take, ◌-◌, ◌/◌, ◌%◌, if◌then◌else◌, nat_lt}
 use Rattle.std.specs.List.{fold, flat_map, range_with_len}
 use Rattle.argon2_blocks.specs.Standard.Blake2b.{words_at, put_at, mix_places}
@@ -43,11 +43,11 @@ spread_row vectors j =
     map (λ w. slice_index (nth_vector vectors (2 * (w / 4) + j / 2)) (4 * (j % 2) + w % 4))
     (range_with_len 0 16)
 
--- four lists of one function, and then four of another
+-- list number k of eight: the first four come from `first`, the others from `last`
 abbrev pub four_and_four : (ℕ → List ℕ) → (ℕ → List ℕ) → ℕ → List ℕ
 four_and_four first last k = if nat_lt k 4 then first k else last (k - 4)
 
--- a mix of the words 0, 2, 4 and 6, and one of the others
+-- a mix of the words 0, 2, 4 and 6, and then a mix of the words 1, 3, 5 and 7
 abbrev pub two_mixes : List ℕ → List ℕ
 two_mixes words =
     fold (λ v at. put_at v at (mix_gb (words_at v at))) words

@@ -11,7 +11,7 @@ half_of_round m v s first =
     (slice_index m (slice_index s (2 * k + 1)))
     (words_at v at))) v (take 4 (drop first (enumerate_from 0 mix_places)))
 
--- the state after the rounds: each word XOR two of v
+-- the state after the rounds: each word of h is combined by XOR with two words of v
 abbrev pub next_state : List ℕ → List ℕ → List ℕ
 next_state h v =
     map (λ i. bit_xor (bit_xor (slice_index h i) (slice_index v i)) (slice_index v (i + 8)))

@@ -12,7 +12,7 @@ use crate::common::BLAKE2B_OUT_LENGTH;
 /// How many bytes of each V but the last go into the hash: its first half, W.
 const HALF_LENGTH: usize = 32;
 
-/// r: how many V come before the last one in a hash of `len` bytes, more than 64.
+/// r: how many V come before the last V in a hash of `len` bytes. `len` is more than 64.
 fn chain_length(len: usize) -> usize
     requires { 64 < len }
     ensures { result ≡ chain_length len }
@@ -50,7 +50,7 @@ impl Link {
         }
     }
 
-    /// Replaces V by the next. Its hash is one F, without a hasher.
+    /// Replaces V by the next V, which is the hash of V. This hash takes one F and no hasher.
     #[tactic(auto, using(crate::proofs::Hashing::blake2b_half_block))]
     fn advance(&mut self)
         ensures { self.new.bytes ≡ blake2b 64 self.old.bytes }
@@ -62,7 +62,7 @@ impl Link {
         write_words(&mut self.bytes, &self.state);
     }
 
-    /// Overwrites V and what it was hashed by.
+    /// Overwrites V and the buffers that were used to hash it.
     fn wipe(&mut self)
         ensures bytes { self.new.bytes ≡ replicate 64 0 }
         ensures block { self.new.block ≡ replicate 16 0 }
@@ -83,8 +83,8 @@ fn write_half(out: &mut [u8], at: usize, v: &[u8; BLAKE2B_OUT_LENGTH])
     copy_from_slice(&mut out[at..at + HALF_LENGTH], &v[..HALF_LENGTH]);
 }
 
-/// Fills a hash of more than 64 bytes, where the link has V 1: W 1 to W r, and then V (r + 1), the
-/// remaining 33 to 64 bytes. It overwrites the link.
+/// Fills a hash of more than 64 bytes with W 1 to W r and then V (r + 1), the remaining 33 to 64
+/// bytes. The link has V 1 at the start, and is overwritten at the end.
 fn write_chain(out: &mut [u8], link: &mut Link)
     requires { 64 < length out.old }
     ensures chain { let r = chain_length (length out.old) in
@@ -113,7 +113,7 @@ fn wipe_frames() {
     wipe(&mut frames, [0; 16]);
 }
 
-/// H' (RFC 9106, 3.3): fills `out`, of 1 to 2^32 - 1 bytes, with the hash of `input` of that
+/// H' (RFC 9106, 3.3): hashes `input`, and fills `out`, of 1 to 2^32 - 1 bytes, with a hash of that
 /// length. It allocates nothing.
 pub fn hprime(out: &mut [u8], input: &[u8])
     requires some { 0 < length out.old }

@@ -1,9 +1,9 @@
 //! The compression (RFC 9106, 3.5 and 3.6) over sixteen vectors of eight words.
 //!
-//! Four rows, and then four columns, are permuted at a time. Between the two steps only halves of
-//! vectors change places, and no block is transposed.
+//! The rows are permuted four at a time, and then the columns are permuted four at a time. Between
+//! the two steps only halves of vectors change places, and no block is transposed.
 //!
-//! The steps are inlined. Calling even the permutation alone would take 15 to 20 % more time.
+//! The steps are inlined. If only the permutation were not, the time would be 15 to 20 % longer.
 
 ghost use Rattle.std.specs.Prelude.{◌≡◌, ◌<◌, ◌≤◌, ◌+◌, ◌*◌, ℕ, length, take, if◌then◌else◌, bit_xor};
 ghost use Rattle.std.specs.Simd.Lanes.{zip2, Each1, chunk, put_chunk};
@@ -96,9 +96,9 @@ fn spread_rows(v: [u64x8; 8]) -> [u64x8; 8]
     ]
 }
 
-// The diagonals of each row's words as columns. Only the positions of the vectors relative to each
-// other matter. So vectors 2 and 3 stay: a mix computes them last, and no shuffle has to wait for
-// them.
+// Turns the diagonals of the 4 x 4 words of each row into columns. Only the positions of the
+// vectors relative to each other matter. So vectors 2 and 3 stay: a mix computes them last, and no
+// shuffle has to wait for them.
 #[inline(always)]
 fn align_row_diagonals(v: [u64x8; 8]) -> [u64x8; 8]
     ensures { (j : ℕ) → j < 4 → spread_row result j ≡ diagonals (spread_row v j) }
@@ -132,7 +132,7 @@ fn restore_row_diagonals(v: [u64x8; 8]) -> [u64x8; 8]
     ]
 }
 
-/// Permutes four rows, of two vectors each, which stay spread.
+/// Permutes four rows, of two vectors each. The result is spread over all eight vectors.
 #[inline(always)]
 fn permute_four_rows(v: [u64x8; 8]) -> [u64x8; 8]
     ensures { (j : ℕ) → j < 4 → spread_row result j ≡ permute_p (vector_pair v j) }
@@ -143,7 +143,7 @@ fn permute_four_rows(v: [u64x8; 8]) -> [u64x8; 8]
     restore_row_diagonals(mixed_twice)
 }
 
-// Columns 0 to 3: the first half of each of eight rows, four spread in each argument.
+// Columns 0 to 3: the first half of each of eight rows. Each argument has four of the rows, spread.
 #[inline(always)]
 fn left_halves(upper: &[u64x8; 8], lower: &[u64x8; 8]) -> [u64x8; 8]
     ensures { (k : ℕ) → k < 4 → column (nth_vector result) k
@@ -179,8 +179,8 @@ fn right_halves(upper: &[u64x8; 8], lower: &[u64x8; 8]) -> [u64x8; 8]
     ]
 }
 
-// The diagonals of each column's words as columns. Vectors 2 and 3 stay, as for rows. Vectors 6 and
-// 7 only swap names, which takes no instruction.
+// Turns the diagonals of the 4 x 4 words of each block column into columns. Vectors 2 and 3 stay,
+// as for rows. Vectors 6 and 7 only swap names, which takes no instruction.
 #[inline(always)]
 fn align_column_diagonals(v: [u64x8; 8]) -> [u64x8; 8]
     ensures { (k : ℕ) → k < 4 → column (nth_vector result) k
@@ -198,7 +198,7 @@ fn align_column_diagonals(v: [u64x8; 8]) -> [u64x8; 8]
     ]
 }
 
-// The columns of each column's words as diagonals again.
+// Turns the columns of the 4 x 4 words of each block column into diagonals again.
 #[inline(always)]
 fn restore_column_diagonals(v: [u64x8; 8]) -> [u64x8; 8]
     ensures value { (k : ℕ) → k < 4 → column (nth_vector result) k
@@ -248,7 +248,7 @@ fn join_halves(left: &[u64x8; 8], right: &[u64x8; 8]) -> [u64x8; 16]
     ]
 }
 
-// The exclusive or. Its clauses also give the length of both vectors, so that callers need not.
+// The exclusive or. Its contract also states the length of both vectors, for its callers' proofs.
 #[inline(always)]
 fn xor_lanes(x: u64x8, y: u64x8) -> u64x8
     ensures value { result ≡ zip2 bit_xor x y }
@@ -262,8 +262,8 @@ fn xor_lanes(x: u64x8, y: u64x8) -> u64x8
 
 // The exclusive or of the first vectors of two blocks.
 //
-// It is not inlined and leaves a vector in memory, so that the compiler aligns the caller's frame
-// to whole vectors. Then no vector that it keeps there lies across two cache lines.
+// It is not inlined and returns its vector in memory, so that the compiler aligns the caller's
+// frame to whole vectors. Then no vector in that frame lies across two cache lines.
 #[inline(never)]
 fn first_sum(x: &[u64; QWORDS_IN_BLOCK], y: &[u64; QWORDS_IN_BLOCK]) -> u64x8
     ensures { result ≡ zip2 bit_xor (take 8 x.now) (take 8 y.now) }
@@ -287,8 +287,8 @@ fn sum_at(x: &[u64; QWORDS_IN_BLOCK], y: &[u64; QWORDS_IN_BLOCK], k: usize) -> u
 
 // The exclusive or of two blocks, eight words to a vector.
 //
-// Neither this function nor `store` nor `store_onto` has a loop. LLVM unrolls loops only for
-// x86-64; otherwise it keeps and copies their vectors in memory (docs/DECISIONS.md has the times).
+// Neither this function nor `store` nor `store_onto` has a loop. LLVM unrolls such loops only for
+// x86-64. Elsewhere it copies their vectors in memory (docs/DECISIONS.md has the times).
 #[inline(always)]
 fn sum(x: &[u64; QWORDS_IN_BLOCK], y: &[u64; QWORDS_IN_BLOCK]) -> [u64x8; VECTORS]
     ensures value { vector_words result ≡ xor x.now y.now }
@@ -415,8 +415,8 @@ fn permute_block(words: &[u64x8; VECTORS]) -> [u64x8; VECTORS]
     join_halves(&left, &right)
 }
 
-/// Makes `next` the compression of two blocks; with `with_xor`, its exclusive or with the old
-/// `next`.
+/// Sets `next` to the compression of two blocks or, if `with_xor` is true, to the exclusive or of
+/// that compression and the old `next`.
 ///
 /// It is not inlined: a copy of this much code at each caller costs more.
 #[inline(never)]
@@ -439,8 +439,8 @@ fn fill_words(
     }
 }
 
-/// Makes `next` the compression G of two blocks (RFC 9106, 3.5); with `with_xor`, its exclusive or
-/// with the old `next`. It allocates nothing.
+/// Sets `next` to the compression G of two blocks (RFC 9106, 3.5) or, if `with_xor` is true, to the
+/// exclusive or of that compression and the old `next`. It allocates nothing.
 pub fn fill_block(prev: &Block, reference: &Block, next: &mut Block, with_xor: bool)
     ensures { let g = compress_g prev.now reference.now in
         next.new ≡ (if with_xor then xor g next.old else g) }

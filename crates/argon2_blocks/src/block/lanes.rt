@@ -8,8 +8,8 @@ ghost use Rattle.argon2_blocks.specs.Views.Lanes.{half_round, lane, two_mixes};
 
 use std::simd::prelude::*;
 
-// Tells the prover what a vector's type guarantees. It learns this from the shift, which the
-// compiler drops.
+// Tells the prover what a vector's type guarantees. The prover learns this from the shift, which
+// the compiler drops.
 #[inline(always)]
 pub(super) fn facts_of_vector(x: u64x8)
     ensures long { length x ≡ 8 }
@@ -18,8 +18,8 @@ pub(super) fn facts_of_vector(x: u64x8)
     let _lanes = x >> u64x8::splat(0);
 }
 
-// The sum and twice the product of the lower halves, in each lane. The masks let the compiler use
-// one multiplication of 32-bit halves.
+// The sum of two words and twice the product of their lower halves, in each lane. The masks let the
+// compiler use one multiplication of 32-bit halves.
 #[inline(always)]
 fn add_product(x: u64x8, y: u64x8) -> u64x8
     ensures value { result ≡ zip2 add_product x y }

@@ -19,7 +19,7 @@ AreTurns {M} Turn (lane ∷ order) before after = (middle : M) × Turn lane befo
 abbrev pub EachHasATurn : {M : Type 0} → (ℕ → M → M → Type 0) → ℕ → M → M → Type 0
 EachHasATurn Turn lanes before after = (order : List ℕ) × IsOrder lanes order × AreTurns Turn order before after
 
--- a lane's turn in slice number n, counted over all passes: its fill, which writes nothing else
+-- a lane's turn in slice number n, counted over all passes: it fills the lane's segment and writes nothing else
 pub record IsTurn (s : Setting) (n lane : ℕ) (before after : Places) : Type 0 where
   pub filled : Fills (numbered s n) lane before (before (n % 4) lane) (after (n % 4) lane)
   pub kept : (slice l : ℕ) → (slice ≢ n % 4) ⊎ (l ≢ lane) → after slice l ≡ before slice l

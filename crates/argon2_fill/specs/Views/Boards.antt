@@ -65,7 +65,7 @@ abbrev pub after_take : Option ℕ → ℕ → List Place → Option (List Place
 after_take None lane places = None
 after_take (Some least) lane places = if least == lane then Some (slice_set places lane Out) else None
 
--- a put of a lane is legal where it is out, and makes it done
+-- a put is legal if its lane is out; the lane is then done
 abbrev pub after_put : Option Place → ℕ → List Place → Option (List Place)
 after_put (Some Out) lane places = Some (slice_set places lane Done)
 after_put (Some Waiting) lane places = None

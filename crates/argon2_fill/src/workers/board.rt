@@ -1,9 +1,9 @@
 //! The lanes of one slice, which workers claim and put back under one lock, and fill outside it.
 //! Each lane is in exactly one state: it waits, is out, or is done.
 //!
-//! The prover knows only the type's own facts of a value that comes out of a lock. So the types of
-//! claims, filled lanes and boards state what the fill relies on. What no type states is checked at
-//! run time.
+//! About a value that comes out of a lock, the prover knows only what its type states. So the types
+//! of claims, filled lanes and boards state what the fill relies on. What no type states is checked
+//! at run time.
 
 ghost use Rattle.std.specs.Prelude.{◌≡◌, ◌<◌, ◌↔◌, IfErr, IfOk, IsOk, ◌+◌, ◌*◌, ◌^◌, ◌≤◌, ◌++◌, ◌∷◌, [], IfNone, IfSome, IsTrue, None, OnErr, OnOk, Some, length, map, replicate, slice_get, slice_set, true};
 ghost use Rattle.argon2_fill.specs.Views.Boards.{IsReady-prop, AllDone, AreReady, HoldSlice, NoneOut, least_waiting, replay};
@@ -96,7 +96,7 @@ impl Claim {
         if self.job != *snapshot.job() {
             return Err(self);
         }
-        // The segment moves out and on, so that no block is copied.
+        // The segment moves from the claim into the result, so that no block is copied.
         let Claim {
             job,
             lane,
@@ -274,8 +274,8 @@ impl Board {
         }
     }
 
-    /// Puts a filled lane back, which is then done. Exactly if it is of another job or its lane is
-    /// not out, the caller gets it back instead, and the board is unchanged.
+    /// Puts a filled lane back: the lane is then done. Exactly if the filled lane is of another
+    /// job, or is not out, the call returns it to the caller and leaves the board unchanged.
     pub fn put(&mut self, filled: Filled) -> std::result::Result<(), Filled>
         ensures exact { IsOk result
             ↔ ((filled.job ≡ self.old.job) × (slice_get self.old.places filled.lane

@@ -15,8 +15,8 @@ use std::thread;
 use std::thread::{Builder, JoinHandle, Parker, Scope, Threads};
 use std::time::Duration;
 
-/// A set of numbers: the workers that may be started. It is consulted where one is started, so that
-/// threads need not share it.
+/// A set of numbers: the workers that may be started. Only the thread that starts a worker
+/// consults it, so that threads need not share it.
 pub trait Permit {
     ghost use Rattle.std.specs.Prelude.{ℕ, Bool};
 
@@ -91,8 +91,8 @@ fn work_and_wipe<R: Wait, G: Gate>(
     wipe_stack();
 }
 
-/// Tries once to start the worker of a number, which is permitted. The permit and the number are
-/// there for the clause alone: the thread gets neither, so threads need not share a permit.
+/// Tries once to start the worker of a number, which is permitted. Only the contract uses the
+/// permit and the number. The thread gets neither, so threads need not share a permit.
 fn try_to_start<'s, E, R: Wait + Sync, G: Gate, P: Permit>(
     scope: &Scope<'s, E>,
     rt: &'s R,

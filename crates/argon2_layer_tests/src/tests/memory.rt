@@ -25,7 +25,8 @@ use std::thread::Threads;
 
 // ---- a memory and its slices
 
-/// Checks that of 4 lanes of 8 blocks this one alone was written, in lane 1 and column 5.
+/// Checks that in a memory of 4 lanes of 8 blocks only this block was written, to lane 1 and column
+/// 5.
 fn check_written(rt: &impl Abort, memory: &Memory, block: &Block) {
     assert!(rt; memory.lanes() == 4 && memory.lane_length() == 8);
     assert_eq!(rt; memory.writes(), 1);

@@ -1,4 +1,5 @@
-//! The board by hand, permits, and resource errors.
+//! Tests that take and put lanes on the board without workers, and tests of permits and resource
+//! errors.
 
 ghost use Rattle.std.specs.Prelude.{◌≡◌, IfOk};
 ghost use Rattle.std.specs.List.{remove};
@@ -46,12 +47,12 @@ impl Call {
         }
     }
 
-    /// One of two lanes.
+    /// A call with two lanes.
     fn of_two_lanes() -> Call {
         Call::of(two_lanes())
     }
 
-    /// One of four lanes, with the inputs of RFC 9106, section 5.
+    /// A call with four lanes and the inputs of RFC 9106, section 5.
     fn of_four_lanes() -> Call {
         Call {
             password: &[1; 32],
@@ -61,7 +62,7 @@ impl Call {
     }
 }
 
-/// The second slice of the first pass, with the slices of a memory in which the first one is
+/// The job at the second slice of the first pass, and the slices of a memory whose first slice is
 /// filled.
 fn begin(alloc: Global, call: &Call) -> Result<(Job, Slices)>
     ensures at { IfOk result (λ r. (r.0.pass ≡ 0) × (r.0.slice ≡ 1)) }
@@ -81,7 +82,7 @@ fn begin(alloc: Global, call: &Call) -> Result<(Job, Slices)>
     Ok((job.at(0, 1), slices))
 }
 
-/// That slice on a board, with the slices that stay.
+/// A board for the second slice, and the other slices.
 fn second_board(alloc: Global, call: &Call) -> Result<(Board, Slices)>
     ensures none_out { IfOk result (λ r. NoneOut r.0.places) }
     ensures snapshot { IfOk result (λ r. IsSnapshot (record {
@@ -246,7 +247,7 @@ fn starts_permitted_workers_alone(rt: HostRuntime) -> Tested<()> {
     Ok(())
 }
 
-// Whatever allocation is denied, the result is the board or that error.
+// Whatever allocation is denied, the result is the board or `OutOfMemory`.
 #[test]
 fn board_new_denied_in_turn(rt: HostRuntime) -> Tested<()> {
     let alloc = rt.alloc();
@@ -274,7 +275,7 @@ fn second_slice<R: Threads + Wait + Sync>(rt: &R, alloc: Global) -> Result<Vec<S
     fill_slice(rt, board, &snapshot, &NoGate, 4)?.finish()
 }
 
-// Whatever allocation or worker is denied, the result is the slice or that error.
+// Whatever allocation or worker is denied, the result is the slice or a resource error.
 #[test]
 fn fill_slice_denied_in_turn(rt: HostRuntime) -> Tested<()> {
     match second_slice(&rt, rt.alloc()) {

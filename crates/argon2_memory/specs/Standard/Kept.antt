@@ -9,8 +9,8 @@ pub record SegmentValue : Type 0 where
   pub blocks : List (List ℕ)
   pub tally : ℕ
 
--- a memory: the number of lanes, the length of a segment, and the segments, slice by slice and there
--- lane by lane
+-- a memory: the number of lanes, the length of a segment, and the segments, slice by slice and lane by lane within each
+-- slice
 pub record MemoryValue : Type 0 where
   pub lanes : ℕ
   pub segment_length : ℕ

@@ -38,7 +38,7 @@ NoEntryReadsOthers = (s : Setting) (order : ℕ → List ℕ) (matrix : Matrix) 
     let p = progress_before s order matrix n before in
     AllByRecursion (λ (l, c). l ≢ lane → IsWrittenIn s (n / 4) (n % 4) c → ⊥) (reads_from s p.matrix (entry_position s n p lane))
 
--- the block that an entry reads at its pick is the recurrence's block of that pick
+-- the block that an entry reads as its reference is the recurrence's block at the place of that reference
 abbrev pub PicksHoldTheirBlocks : Type 0
 PicksHoldTheirBlocks = (s : Setting) (order : ℕ → List ℕ) (matrix : Matrix) → IsRun s order matrix →
     (n : ℕ) (before : List ℕ) (lane : ℕ) (after : List ℕ) → IsEntry s order n before lane after →

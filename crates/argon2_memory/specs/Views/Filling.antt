@@ -32,13 +32,13 @@ pub record IsSnapshot (v : SnapshotValue) : Type 0 where
   pub beside : IsBeside v
   pub held : HoldOthers v.job (other_blocks v)
 
--- four slices by number, in which the first of the other slices stands in for the job's own
+-- a list of four slices. At the number of the job's slice, the list has the first of the other three
 pub record IsAround (j : Job) (slices : List (List SegmentValue)) : Type 0 where
   pub beside : IsBeside (record { job = j; others = remove slices j.slice })
   pub count : length slices ≡ 4
   pub stand_in : slice_index_or slices j.slice [] ≡ slice_index_or (remove slices j.slice) 0 []
 
--- slices of the caller, lane after lane
+-- the caller's slices, which store lane after lane, as segments: a segment, a slice, and several slices
 abbrev pub segment_of_lane : Setting → List (List ℕ) → ℕ → SegmentValue
 segment_of_lane s blocks lane = record { blocks = blocks_of_lane s blocks lane; tally = 0 }
 

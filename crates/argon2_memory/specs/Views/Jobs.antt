@@ -1,4 +1,4 @@
--- The bounds of a setting, and a job: its numbers with those of one pass and one slice.
+-- The bounds of a setting, and a job: a setting with the numbers of one pass and one slice.
 use Rattle.std.specs.Prelude.{◌≡◌, ℕ, ◌+◌, ◌*◌, ◌^◌, ◌<◌, ◌≤◌, ◌==◌, ◌&&◌, if◌then◌else◌, List, length}
 use Rattle.argon2_standard.specs.Standard.SettingsTable.{max_lanes}
 use Rattle.argon2_standard.specs.Standard.Setting.{Setting, lane_length, memory_blocks, Position}
@@ -31,7 +31,7 @@ pub record Job : Type 0 where
   pub pass : ℕ
   pub slice : ℕ
 
--- the place of an index of the job's segment of a lane
+-- the position of the block at an index of a lane's segment in the job's slice
 abbrev pub position_of : Job → ℕ → ℕ → Position
 position_of j lane index =
     record { pass = j.pass; lane = lane; column = j.slice * j.setting.segment_length + index }

@@ -28,8 +28,8 @@ reference_of j lane index = pick_of j lane index (drawn_word j.setting (block_at
 abbrev pub independent_reference : Job → ℕ → ℕ → ℕ × ℕ
 independent_reference j lane index = pick_of j lane index (address_word j.setting (position_of j lane index))
 
--- how many columns of a lane still hold blocks of the pass before; then how many elements the
--- reference set has
+-- how many columns of a lane still hold blocks of the pass before. `reference_set_size` below is the number of blocks
+-- in the reference set
 abbrev pub left_columns : Job → ℕ
 left_columns j =
     if j.pass == 0 then 0 else lane_length j.setting - (j.slice * j.setting.segment_length + j.setting.segment_length)
@@ -47,7 +47,7 @@ reference_set_column j position =
 
 -- ---- of a segment
 
--- the lane and column of each reference of a segment, by index, from 2 in the first slice of pass 0
+-- the lane and column of each reference of a segment, by index. In the first slice of pass 0 the indexes begin at 2
 abbrev pub positions_in : Setting → ℕ → ℕ → ℕ → List (ℕ × ℕ)
 positions_in s pass slice lane =
     let first = first_written pass slice in

@@ -9,7 +9,7 @@ use Rattle.argon2_memory.specs.Standard.Kept.{SegmentValue}
 use Rattle.argon2_memory.specs.declared.segment.own_blocks.Source.{Source}
 use Rattle.argon2_memory.specs.declared.segment.own_blocks.Source.TheVariants.{Own, Other}
 
--- ---- what a segment, one lane's part of a slice, holds, and how it keeps its blocks
+-- ---- what a segment (one lane's part of a slice) holds, and how it keeps its blocks
 
 -- ---- the blocks of a pass
 
@@ -22,8 +22,8 @@ segment_block s pass slice lane index =
 abbrev pub segment_at : Setting → ℕ → ℕ → ℕ → List (List ℕ)
 segment_at s pass slice lane = map (segment_block s pass slice lane) (range_with_len 0 s.segment_length)
 
--- a segment before a pass over it: in pass 0 with the first two blocks, if it is in slice 0; later
--- with the blocks of the pass before
+-- a segment is ready for a pass. In pass 0 a segment of slice 0 holds its lane's first two blocks, and
+-- other segments may hold any blocks. In a later pass a segment holds the blocks of the pass before
 abbrev pub IsReady : Setting → ℕ → ℕ → ℕ → List (List ℕ) → Type 0
 IsReady s zero zero lane blocks = (length blocks ≡ s.segment_length) × (take 2 blocks ≡ take 2 (segment_at s 0 0 lane))
 IsReady s zero (suc slice) lane blocks = length blocks ≡ s.segment_length
@@ -46,14 +46,14 @@ zero_segment length = record { blocks = replicate length zero_block; tally = 0 }
 abbrev pub wiped_segment : SegmentValue → SegmentValue
 wiped_segment s = zero_segment (length s.blocks)
 
--- ---- zeros that are not made yet
+-- ---- blocks of zeros that the segment has not created yet
 
--- the blocks that are made, and the zeros behind them
+-- the created blocks, and behind them the blocks of zeros that are not created yet
 abbrev pub with_zeros : List (List ℕ) → ℕ → List (List ℕ)
 with_zeros made zeros = made ++ replicate zeros zero_block
 
--- there is capacity for the zeros that are not made yet. If there are any, the last block that is made is
--- also zeros, and is read in place of each of them
+-- there is capacity for the blocks of zeros that are not created yet. If there are any, the last created
+-- block is also zeros, and it is read in place of each of them
 pub record IsMadeInPart (made : List (List ℕ)) (count capacity zeros : ℕ) : Type 0 where
   pub room : count + zeros ≤ capacity
   pub some : 0 < zeros → 0 < count

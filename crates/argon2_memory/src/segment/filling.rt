@@ -1,4 +1,5 @@
-//! The fill of one segment, block after block, whether it is a memory's or the caller provides it.
+//! The fill of one segment, block after block. The segment is part of a memory, or the caller
+//! provides it.
 
 ghost use Rattle.std.specs.Prelude.{◌≡◌, ℕ, ◌+◌, ◌-◌, ◌*◌, ◌%◌, ◌^◌, ◌<◌, ◌≤◌, [], ◌∷◌, length, slice_index_or, true, false};
 ghost use Rattle.argon2_memory.specs.Theorems.Schedule.{blocks_in_slice};
@@ -54,7 +55,8 @@ fn named<'a, O: OwnBlocks>(own: &'a O, source: Source<'a>) -> &'a Block
     }
 }
 
-/// The word that the block at an index draws, in a segment whose references depend on the blocks.
+/// The word that picks the reference of the block at an index, in a segment whose references depend
+/// on the blocks.
 fn dependent_word<S: OtherBlocks, O: OwnBlocks>(
     beside: &Beside<S>,
     lane: u32,
@@ -156,8 +158,8 @@ fn fill_independent<S: OtherBlocks, O: OwnBlocks>(
     ensures tally { (O.seen own.new).tally ≡ ((O.seen own.old).tally + count) % 2 ^ 64 }
     ensures same { O.loan own.new ≡ O.loan own.old }
 {
-    // On the stack, since a fill allocates nothing. All are drawn before the first write, so that
-    // one block of addresses serves them.
+    // On the stack, since a fill allocates nothing. All references are computed before the
+    // first write, so that one address block is enough for them.
     let mut references = [(0, 0); QWORDS_IN_BLOCK];
     let some = &mut references[..count as usize];
     reference_positions(beside.job(), lane, first, some);
@@ -231,11 +233,11 @@ pub fn fill_segment(snapshot: &Snapshot<'_>, lane: u32, segment: &mut Segment)
 }
 
 /// Fills a lane's segment of the job's slice. The caller provides the segment and the other three
-/// slices, in rising order and each lane after lane, whatever their contents.
+/// slices, whatever their contents. The slices come in rising order, each stored lane after lane.
 ///
-/// The segment then holds the blocks of the job's pass, if it was as a fill of the job requires,
-/// the slices below the job's hold the blocks of that pass, and those above the blocks of the pass
-/// before.
+/// The segment then holds the blocks of the job's pass, provided that three conditions hold: the
+/// segment was ready for a fill of the job, the slices below the job's hold the blocks of that
+/// pass, and the slices above hold the blocks of the pass before.
 pub fn fill_caller_segment(
     job: &Job,
     lane: u32,

@@ -1,5 +1,6 @@
 //! The two kinds of segment: the blocks of one lane in one slice, in a memory or caller-provided.
-//! Their fields are private to this file, so that each block made or copied there is counted.
+//! Their fields are private to this file, so that no block is made in, or copied to, a segment
+//! without being counted.
 
 ghost use Rattle.std.specs.Prelude.{◌≡◌, ◌+◌, ◌%◌, ◌^◌, ◌<◌, ◌≤◌, [], IfOk, length, replicate, slice_index_or, slice_set, vec_capacity, vec_len};
 ghost use Rattle.argon2_blocks.specs.Standard.Block.{zero_block};
@@ -14,7 +15,8 @@ use std::marker::Model;
 /// The blocks of one lane in one slice, and how many were written, modulo 2^64.
 ///
 /// Blocks of zeros are made late, so that the thread that fills a segment is the first to touch
-/// most of its memory. One more is made than is written, and is read in place of all later zeros.
+/// most of its memory. One zero block is made after the last one written. It is read in place of
+/// all later zeros.
 #[derive(Drop)]
 pub struct Segment {
     blocks: Vec<Block>,
@@ -119,7 +121,7 @@ impl Segment {
     {
         let mut blocks = Vec::with_capacity(alloc, length as usize)?;
         let mut zeros = length as usize;
-        // One block is made, since `block` reads the last one for all that are not.
+        // One block is made, since `block` reads the last made block in place of all others.
         if zeros > 0 {
             blocks.push_reserved(Block::zero());
             zeros -= 1;
@@ -166,9 +168,9 @@ impl Segment {
         &self.blocks[usize::min(index, self.blocks.len() - 1)]
     }
 
-    /// Writes the compression of two sources at the index or, with `with_xor`, that combined with
-    /// the old block (RFC 9106, 3.2). It writes in place, and counts the write. A source of the
-    /// same segment comes before the index.
+    /// Writes the compression of two sources at the index. With `with_xor`, the result is combined
+    /// with the old block (RFC 9106, 3.2). It writes in place, and counts the write. A source of
+    /// the same segment comes before the index.
     pub fn write(&mut self, index: usize, prev: Source<'_>, reference: Source<'_>, with_xor: bool)
         requires index_fits { index < length self.old.blocks }
         requires prev_before { IsBefore index prev }
@@ -247,7 +249,7 @@ pub(crate) struct CallerSegment<'a> {
 }
 
 impl<'a> CallerSegment<'a> {
-    /// The blocks, whatever their contents, of which none was written yet.
+    /// A segment of these blocks, whatever their contents. None of them counts as written yet.
     pub(super) fn new(blocks: &'a mut [Block]) -> CallerSegment<'a>
         ensures same { result.blocks.ghost_name ≡ blocks.entry.ghost_name }
         ensures blocks { result.blocks.now ≡ blocks.old }

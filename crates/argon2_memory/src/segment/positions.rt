@@ -68,8 +68,8 @@ pub fn reference_set_size(job: &Job, is_own: u32, index: u32) -> u32
     }
 }
 
-/// The column at a relative position in the reference set: those behind the slice come first, then
-/// those from the lane's begin on.
+/// The column at a relative position in the reference set: the columns after the slice come first,
+/// then those from the start of the lane on.
 pub fn reference_set_column(job: &Job, position: u32) -> u32
     requires { position < lane_length job.now.setting }
     ensures { result ≡ reference_set_column job.now position }
@@ -83,7 +83,7 @@ pub fn reference_set_column(job: &Job, position: u32) -> u32
         .wrapping_sub(reaches(position, left) * length)
 }
 
-/// The lane that a word draws for a block of a lane, and 1 if it is that lane, else 0.
+/// The lane that a word draws for a block, and 1 if this is the block's own lane, else 0.
 fn drawn_lane(job: &Job, lane: u32, word: u64) -> (u32, u32)
     requires { lane < job.now.setting.lanes }
     ensures value { (index : ℕ) → index < job.now.setting.segment_length

@@ -1,4 +1,5 @@
-//! The slices of a memory beside one that is filled, with the blocks that its fill requires.
+//! The other three slices of a memory while one is filled. They hold the blocks that the fill
+//! requires.
 
 ghost use Rattle.std.specs.Prelude.{◌≡◌, map};
 ghost use Rattle.argon2_memory.specs.Views.Filling.{IsSnapshot, SnapshotValue};
@@ -42,7 +43,7 @@ impl<'a> Snapshot<'a> {
         self.beside.job()
     }
 
-    /// The slices, whatever they hold.
+    /// The slices as a `Beside`, a type that does not say what they hold.
     pub(super) fn beside(&self) -> &Beside<[&'a [Segment]; 4]>
         ensures value { result.now ≡ self.now }
         ensures snapshot { IsSnapshot self.now }

@@ -1,6 +1,6 @@
 -- Which strings decode to which value: a relation on whole strings. As in rust-argon2, it accepts more than the
--- PHC strings that are written: a name may have a capital, a number a plus and leading zeros, and the version may
--- be missing.
+-- PHC strings that are written: a name may have a capital, a number may have a plus and leading zeros, and the
+-- version may be missing.
 use Rattle.std.specs.Prelude.{◌≡◌, ◌≢◌, ◌⊎◌, ℕ, ◌<◌, ◌^◌, List, [], ◌++◌, codes, Option, Some, None}
 use Rattle.std.specs.List.{AllByRecursion}
 use Rattle.std.specs.Str.Parse.{IsNumeral, digits_value}

@@ -1,4 +1,4 @@
--- What the calls of the crate's root return.
+-- What the root calls (`argon2::NAME`) return.
 use Rattle.std.specs.Prelude.{◌≡◌, ◌⊎◌, Option, Some, None, Result, Ok, Err, Bool, true, false, List, ℕ, length, ◌↔◌, IsTrue}
 use Rattle.argon2_standard.specs.declared.error.Error.{Error}
 use Rattle.argon2_standard.specs.declared.error.Error.TheVariants.{OutOfMemory, WorkerRefused}
@@ -26,8 +26,8 @@ IsHash pwd salt config workers Shows answer =
     IsOutcome (table_error config (length pwd) (length salt) config.hash_length) workers
     (λ value. Shows value (tag_of pwd salt config config.hash_length)) answer
 
--- the first error of the settings table at the hash's own length, or whether the hash is the tag of that
--- length, or a resource error
+-- the first error of the settings table for the hash's own length; else a Boolean, which says whether the hash
+-- is the tag of that length, or a resource error
 abbrev pub IsVerdict : List ℕ → List ℕ → List ℕ → Config → Bool → Result Bool Error → Type 0
 IsVerdict pwd salt hash config workers answer =
     IsOutcome (table_error config (length pwd) (length salt) (length hash)) workers

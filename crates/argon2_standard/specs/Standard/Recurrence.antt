@@ -80,8 +80,7 @@ unroll s (suc n) at = recurrence s (unroll s n) at
 abbrev pub rank : Setting → Position → ℕ
 rank s at = at.pass * lane_length s + at.column
 
--- B: the block at a place. The recurrence is applied once more than there are places before it in the lane. B
--- meets the recurrence, and no other function does (`recurrence_law`), so `unroll` and `rank` need not be
--- believed.
+-- B: the block at a place, by `rank` + 1 applications of the recurrence. B meets the recurrence, and no other
+-- function does (`recurrence_law`), so you need not trust `unroll` and `rank`.
 unfoldable pub block_at : Setting → Blocks
 block_at s at = unroll s (suc (rank s at)) at

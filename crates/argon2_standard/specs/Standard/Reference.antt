@@ -33,10 +33,10 @@ columns_of_last_pass s (suc last) slice = columns_between last ((slice + 1) * s.
 abbrev pub without_last : List (ℕ × ℕ) → List (ℕ × ℕ)
 without_last xs = take (length xs - 1) xs
 
--- W: the reference set, the passes and columns of a lane that the block at a place may refer to, in
--- order. They are what is left of the pass before, the slices of this pass before the present one
--- and, in the own lane, the segment so far. The last element is left
--- out in the own lane, and in each lane for the first block of a segment (3.4.2).
+-- W: the reference set. It lists, in order, the passes and columns of a lane that the block at a place may refer to:
+-- the columns that still hold blocks of the pass before, the earlier slices of this pass, and in the block's own lane
+-- the segment so far. The last element is left out in the block's own lane, and for the first block of a segment also
+-- in the other lanes (3.4.2).
 unfoldable pub reference_set : Setting → Position → ℕ → List (ℕ × ℕ)
 reference_set s at lane =
     let slice = slice_of s at.column in
@@ -60,7 +60,7 @@ abbrev pub drawn_lane : Setting → ℕ → Position → ℕ
 drawn_lane s word at =
     if (at.pass == 0) && (slice_of s at.column == 0) then at.lane else high_half word % s.lanes
 
--- the place that a drawn word picks for the block at a place
+-- the place of the reference block that a drawn word picks for the block at the place `at`
 unfoldable pub pick : Setting → ℕ → Position → Position
 pick s word at =
     let lane = drawn_lane s word at in

@@ -14,6 +14,6 @@ fills_alone (AtMost most) lanes = nat_le most 1 || (lanes == 1)
 abbrev pub uses_sequential : Config → Bool
 uses_sequential config = fills_alone config.thread_mode config.lanes
 
--- whether workers are started, one of which may fail to start
+-- whether workers are started, so that a worker may fail to start
 abbrev pub may_lack_workers : Config → Bool
 may_lack_workers config = not (uses_sequential config)

@@ -7,7 +7,7 @@ use Rattle.argon2_standard.specs.Standard.Version.{version_number, version_text}
 use Rattle.argon2_standard.specs.declared.thread_mode.ThreadMode.{ThreadMode}
 use Rattle.argon2_standard.specs.declared.thread_mode.ThreadMode.TheVariants.{Sequential, Parallel}
 
--- ---- names and numbers of no variant or version
+-- ---- names and numbers that no variant or version has
 
 abbrev pub IsNoVariantNumber : ℕ → Type 0
 IsNoVariantNumber number = (variant : Variant) → variant_number variant ≡ number → ⊥

@@ -1,4 +1,4 @@
--- The presets, and how many workers a configuration starts.
+-- The presets, and how many workers fill the slices of a configuration.
 use Rattle.std.specs.Prelude.{◌≡◌, ℕ, min, if◌then◌else◌, []}
 use Rattle.argon2_standard.specs.declared.config.Config.{Config}
 use Rattle.argon2_standard.specs.declared.thread_mode.ThreadMode.{ThreadMode}

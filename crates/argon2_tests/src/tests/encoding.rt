@@ -12,7 +12,7 @@ use base64::DecodeError;
 use std::cmp::Ordering;
 use std::test::Fail;
 
-// ---- decoding and writing. The strings of the format's freedoms and faults are rows of `argon2_vectors`
+// ---- decoding and writing. Strings with each freedom and each fault of the format are rows of `argon2_vectors`
 
 // The hash of `password` with the salt `somesalt`: Argon2i, version 0x13, 2 passes, 256 KiB, 1
 // lane.
@@ -41,8 +41,8 @@ fn encode_string_denied_in_turn(rt: HostRuntime) -> Result<(), Fail> {
     print_answer(&rt, answer.map(|text| text.as_str() == TEXT))
 }
 
-// Each fault before the salt, the missing or added `$` among them, as in the rows. For these
-// nothing is allocated: whatever request is denied, the result is `DecodingFail` and not
+// Strings with each fault before the salt, also with a missing or an added `$`, as in those rows.
+// Decoding them allocates nothing: whatever request is denied, the result is `DecodingFail` and not
 // `OutOfMemory`.
 pub const HEAD_FAULTS: [&str; 34] = [
     "",

@@ -20,7 +20,7 @@ use std::sync::atomic::{AtomicU64, Ordering};
 use std::test::Fail;
 use std::thread::Threads;
 
-/// All numbers but one.
+/// Permits each start of a worker except the one with this number.
 #[derive(Clone, Copy)]
 struct AllBut(u64);
 
@@ -32,8 +32,8 @@ impl Permit for AllBut {
     }
 }
 
-/// All numbers; it records those below 128 that it was asked for, and whether it was asked for
-/// another.
+/// Permits each start of a worker. It records for which numbers below 128 it was asked, and whether
+/// it was asked for a greater number.
 #[derive(Drop)]
 struct Asked {
     low: AtomicU64,

@@ -23,7 +23,8 @@ cut mark (b ∷ text) = if b == mark then Some ([], text) else option_map (λ x.
 unfoldable pub piece : List ℕ → ℕ → List ℕ → Option (List ℕ × List ℕ)
 piece front mark text = strip front text >>= cut mark
 
--- `v=` and the version up to a `$`, or nothing
+-- the version before the first `$`, and what is after that `$`. The second argument is what follows `v=` in `text`. If
+-- `text` does not begin with `v=`, there is no version, and all of `text` is left
 abbrev pub version_behind : List ℕ → Option (List ℕ) → Option (Option (List ℕ) × List ℕ)
 version_behind text None = Some (None, text)
 version_behind text (Some rest) = cut dollar rest >>= λ x. Some (Some x.0, x.1)

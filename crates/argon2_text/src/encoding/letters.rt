@@ -55,8 +55,8 @@ pub fn item_len(text: &[u8]) -> u64
     3 * (len / 4) + 3 * (len % 4) / 4
 }
 
-/// 1 where a byte is not below a bound, else 0. It is a sum, since compilers make jumps of
-/// comparisons.
+/// 1 where a byte is not below a bound, else 0. It is a sum, since compilers turn comparisons into
+/// jumps.
 fn reaches(byte: u32, bound: u32) -> u32
     requires { (byte < 256) × (bound ≤ 256) }
     ensures { result ≡ reaches byte bound }
@@ -104,7 +104,7 @@ fn fault(letter: u8) -> u32
     1 + behind - begun
 }
 
-/// How many of four characters are not base64, gathered to the end.
+/// How many of four characters are not base64. It goes on to the last character.
 #[tactic(auto, using(crate::proofs::Letters::group_faults))]
 fn group_faults(group: &[u8]) -> u32
     requires { length group.now ≡ 4 }
@@ -116,9 +116,9 @@ fn group_faults(group: &[u8]) -> u32
 
 /// The three bytes of four characters.
 ///
-/// It is never inlined. LLVM keeps values below the stack pointer in functions that call no other,
-/// and Windows may overwrite them there. So whoever decodes calls this function, which is small
-/// enough for the registers.
+/// It is never inlined. In a function that calls no other, LLVM keeps values below the stack
+/// pointer, where Windows may overwrite them. So each function that decodes calls this one. This
+/// function calls no other, but the registers have room for its values.
 #[inline(never)]
 #[tactic(auto, using(crate::proofs::Letters::placed), unfolding(crate::specs::Views::Letters::bytes_read))]
 pub fn three_bytes(group: &[u8]) -> [u8; 3]

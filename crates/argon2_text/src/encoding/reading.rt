@@ -160,7 +160,7 @@ fn pieces_of(text: &[u8]) -> Option<Pieces<'_>>
     })
 }
 
-/// Behind `front`, the piece up to the first `mark`, and what is after the mark.
+/// The piece between `front` and the first `mark` after it, and what is after the mark.
 #[tactic(auto, unfolding(crate::specs::Views::Cutting::piece))]
 fn piece<'a>(text: &'a [u8], front: &[u8], mark: u8) -> Option<(&'a [u8], &'a [u8])>
     ensures { option_map two_texts result ≡ piece front.now mark text.now }
@@ -171,7 +171,7 @@ fn piece<'a>(text: &'a [u8], front: &[u8], mark: u8) -> Option<(&'a [u8], &'a [u
     }
 }
 
-/// The version up to its `$`, if the string begins with one, and what is after it.
+/// The version up to its `$`, if the string begins with `v=`, and what is after the `$`.
 #[tactic(auto, unfolding(crate::specs::Views::Cutting::version_piece))]
 fn version_piece(text: &[u8]) -> Option<(Option<&[u8]>, &[u8])>
     ensures { option_map version_and_rest result ≡ version_piece text.now }
@@ -213,8 +213,8 @@ fn cut(text: &[u8], mark: u8) -> Option<(&[u8], &[u8])>
     Some((before, behind))
 }
 
-/// Where the first `mark` is. It looks at no byte behind it; a search of many bytes at a time
-/// would.
+/// Where the first `mark` is. This search looks at no byte behind the mark; a search of many bytes
+/// at a time would.
 fn first(bytes: &[u8], mark: u8) -> Option<usize>
     ensures { MatchOption result
         ((i : ℕ) → i < length bytes.now → slice_index bytes.now i ≢ mark)

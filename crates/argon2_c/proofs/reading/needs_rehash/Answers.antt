@@ -1,4 +1,4 @@
--- What agrees with the configuration of no secret and no data agrees with that of any.
+-- An encoded hash that agrees with the configuration without secret and data agrees with it for any secret and data.
 use Rattle.std.proofs.Common.{refl}
 use Rattle.argon2_text.specs.Views.Texts.{spelled_with}
 use Rattle.argon2_c.proofs.JobNumbers.{by_head, no_head, agrees_with, agrees_without, no_inputs, other_inputs}

@@ -9,7 +9,7 @@ use Rattle.argon2_fill.specs.Views.Boards.{PermitsAll}
 use Rattle.argon2_fill.proofs.Passes.{filled_begun, holds_last_pass, next_slice}
 use Rattle.argon2_fill.proofs.workers.fill_parallel_with.Goals as goal
 
--- numbers that follow one another
+-- if two stretches that follow one another are permitted, so are both together
 permitted_more : (permits : ℕ → Bool) (first count : ℕ) → PermitsAll permits 0 first → PermitsAll permits first count → PermitsAll permits 0 (first + count)
 permitted_more permits first count front back = λ k h. elim (cases_lt k first) [
   | inl w ↦ front k w

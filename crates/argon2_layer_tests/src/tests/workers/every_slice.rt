@@ -1,4 +1,4 @@
-//! All slices under one gate, which counts anew in each slice.
+//! All slices under one gate, which counts the calls of each slice separately.
 
 ghost use Rattle.std.specs.Prelude.{IfOk};
 ghost use Rattle.argon2_memory.specs.Standard.Kept.{HasShape};

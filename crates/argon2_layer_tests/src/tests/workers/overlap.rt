@@ -119,7 +119,7 @@ fn fills_four_lanes_by_two_workers(rt: HostRuntime) -> Tested<()> {
 
 // ---- workers that are all in their fillings at once
 
-/// More workers than a batch of handles holds.
+/// More workers than `run_workers` can hold handles of in one call.
 const WORKERS: u32 = 40;
 
 /// Keeps each lane in its filling until all are there.
@@ -254,7 +254,7 @@ impl Gate for Count {
     fn put(&self, _lane: u32) {}
 }
 
-/// No number.
+/// Permits no start of a worker.
 #[derive(Clone, Copy)]
 struct Nobody;
 

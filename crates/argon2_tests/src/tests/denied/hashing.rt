@@ -31,14 +31,14 @@ fn hash<R: Threads + Wait + Sync>(
     Ok(raw.as_slice() == tag_of(variant))
 }
 
-/// Whether the tag of RFC 9106 comes from the call that does not look at the thread mode.
+/// Whether the call that ignores the thread mode returns RFC 9106's tag.
 fn hash_sequential(alloc: Global, variant: Variant) -> argon2::Result<bool> {
     let config = in_mode(variant, Parallel);
     let raw = hash_raw_sequential(alloc, &PASSWORD, &SALT, &config)?;
     Ok(raw.as_slice() == tag_of(variant))
 }
 
-/// Whether the encoded hash of RFC 9106's tag comes.
+/// Whether hashing returns the encoded hash of RFC 9106's tag.
 fn encode<R: Threads + Wait + Sync>(
     rt: &R,
     alloc: Global,
@@ -131,7 +131,7 @@ fn hash_encoded_sequential_denied_in_turn(rt: HostRuntime) -> Result<(), Fail> {
     print_answer(&rt, answer.map(|text| text.as_str() == TEXT))
 }
 
-// More workers than a batch of handles holds, and a single pass.
+// More workers than `run_workers` can hold handles of in one call, and a single pass.
 #[test]
 fn hash_raw_by_forty_workers_denied_in_turn(rt: HostRuntime) -> Result<(), Fail> {
     let config = Config {

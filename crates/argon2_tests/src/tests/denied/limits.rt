@@ -52,8 +52,8 @@ const WITHIN: [&str; 12] = [
     "$argon2id$v=19$m=102400,t=2,p=8$AAAAAAA$AAAAAAA",
 ];
 
-// Encoded hashes at all default limits except that of passes or that of memory; then hashes above a
-// limit.
+// Encoded hashes at the default limits, except the limit of passes (the first) or of memory (the
+// second). Then hashes above a limit.
 // limits, by .ci/pages/presets
 const AT_LIMITS: [&str; 2] = [
     "$argon2id$v=19$m=2097152,t=2,p=16$AAAAAAA$AAAAAAA",
@@ -146,7 +146,7 @@ fn a_costly_text_allocates_nothing_denied_in_turn(rt: HostRuntime) -> Result<(),
     print_answer(&rt, Ok(true))
 }
 
-// Each string is four characters longer; the hashes are whole groups of base64.
+// Each string is four characters longer than the one before: its hash has one more group of base64.
 #[test]
 fn a_costly_text_of_any_length_allocates_nothing_denied_in_turn(
     rt: HostRuntime,

@@ -147,7 +147,8 @@ fn hash_raw_in_sequential_twice_denied_in_turn(rt: HostRuntime) -> Result<(), Fa
     print_answer(&rt, answer)
 }
 
-/// Whether the tag comes in a buffer of twice the blocks, which has to be freed first.
+/// Whether hashing returns the tag if the buffer has twice the blocks, and so has to be freed
+/// first.
 fn hash_in_another_shape(alloc: Global) -> argon2::Result<bool> {
     let (config, mut memory) = (by_workers(), Memory::new(alloc, 4, 16)?);
     let tag = hash_raw_in_sequential(alloc, &mut memory, &PASSWORD, &SALT, &config)?;

@@ -6,7 +6,7 @@ use Rattle.argon2_fill.specs.Views.Boards.{PermitsAll}
 use Rattle.std.proofs.lemmas.Bool.{and_parts}
 use Rattle.argon2_fill.proofs.workers.crew.all_permitted.Goals as goal
 
--- a test that each number of a stretch passes
+-- if a test of a whole stretch is true, each of its numbers is permitted
 permits_all : (p : ℕ → Bool) (a n : ℕ) → list_all p (range_with_len a n) ≡ true → PermitsAll p a n
 permits_all p a zero e k h = absurd (omega arith)
 permits_all p a (suc n) e zero h = ap p (omega arith) ∙ (and_parts (p a) (list_all p (range_with_len (a + 1) n)) e).0

@@ -5,7 +5,7 @@ use Rattle.std.specs.Str.Parse.{digits_value_after}
 use Rattle.std.proofs.lemmas.Str.{digit_value_digit}
 use Rattle.argon2_text.proofs.encoding.reading.digits.Goals as goal
 
--- digits behind a number write no smaller one
+-- more digits behind a number do not make it smaller
 grows : (n : ℕ) (ds : List ℕ) → n ≤ digits_value_after 10 n ds
 grows n [] = omega arith
 grows n (c ∷ cs) = let it = grows (n * 10 + digit_value c) cs in omega (arith, it)

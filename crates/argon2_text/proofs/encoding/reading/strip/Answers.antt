@@ -8,7 +8,7 @@ use Rattle.argon2_text.proofs.encoding.reading.strip.Goals as goal
 too_short : (front text : List ℕ) → length text < length front → strip front text ≡ None
 too_short front text less = strip_none front text (λ rest e. let it = ap length e ∙ length-append front rest in omega (arith, less, it))
 
--- nor does one with another byte at some place
+-- a string that differs from the front at some place does not begin with the front
 differs : (front text : List ℕ) (at : ℕ) → at < length front → get_or text at 0 ≢ get_or front at 0 → strip front text ≡ None
 differs front text at inside other = strip_none front text (λ rest e. other (rw e (get_or_append_left front rest 0 at inside)))
 
