@@ -1,6 +1,6 @@
 """Refuses each request for memory and each start of a worker in turn, in the tests and the programs that the proofs
-leave: a sweep for each label of LABELS. A start is refused at all of its tries, and then at all but the last: then the
-result has to be unchanged. A label without a sweep fails, and so does the reverse.
+leave: a sweep for each label of LABELS. A start is refused at all of its tries and, in another run, at all but the
+last: in that run the result has to be unchanged. A label without a sweep fails, and so does a sweep without a label.
 """
 
 import re

@@ -15,7 +15,7 @@ import pytest
 from runs import PASSWORD, SEED, SLICES, VALUE, VARIANTS, VERSIONS, Hash, copy_of, run
 from shared import TOP
 
-# Asked for `all` modes, argon2_vectors makes Rattle's calls in this many, and then the one-thread call.
+# For the mode `all`, argon2_vectors makes Rattle's calls in this many modes, and then the one-thread call.
 MODES = 7
 DRAWS, DRAWS_COUNTED, DRAWS_OF_MODES = 24, 6, 4
 ABOUT = Path('/proc/meminfo').read_text(encoding='utf-8')
@@ -55,8 +55,8 @@ def each(hashes):
 
 
 def blocks(settings):
-    """How many blocks are compressed: the matrix in each pass, except in the first pass the first two of each lane; and
-    two for each 128 references that depend on no block, per segment, unless it has only those two."""
+    """How many blocks are compressed: the matrix in each pass, except in the first pass the first two of each lane. A
+    segment whose references depend on no block adds two per 128 references, unless it has only those first two."""
     length = settings.memory // (SLICES * settings.lanes)
     slices = {'argon2d': 0, 'argon2id': 2, 'argon2i': SLICES * settings.passes}[settings.variant]
     slices -= slices > 0 and length == 2

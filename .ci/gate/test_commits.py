@@ -13,7 +13,7 @@ BEGUN, OPEN = '7c9d68e1', 'docs/promises-open.txt'
 CHECK = r'^{} *(?:(?:async )?def test_|assert\b|check\w*\(|test\(|judge\w*\(|in_c\(|test_of\w*\(|planted\(' \
         r'|#\[test\]|refused \w+$|\S.*\t)'
 PLACES = '.ci', 'bindings', 'crates'
-# A short subject: the place, and then no other form of a verb than the imperative; `bring` only looks like one.
+# A short subject: the place, and then no form of a verb except the imperative; `bring` only looks like another.
 SUBJECT = re.compile(r'(?=.{1,72}$)[^:]+: (?!(?:fix|features?|figures?)\b)'
                      r'(?!(?!(?:bring|embed|need|feed|focus)\b)\w+(?:ing|ed|[^s]s) )\S+ \S', re.I)
 

@@ -183,7 +183,7 @@ def check_archive(path, prefix):
 
 
 def check_object(path, prefix):
-    """Whatever a linker puts around an object, it runs the code that is read here."""
+    """Whatever a linker puts around an object, the code that runs is the code that is read here."""
     if path.read_bytes()[:4] == b'\x7fELF':
         return mapped.check_object(path)
     said = run(f'{prefix}objdump', '-r', '-t', path)
@@ -204,7 +204,7 @@ def check_object(path, prefix):
 
 
 def check_imports(path):
-    """An import library for Windows has no code but a jump for each function, to where a loader writes its address."""
+    """An import library for Windows has no code except a jump for each function, to an address that a loader writes."""
     prefix, words, *_ = WINDOWS
     check_archive(path, prefix)
     found = filter(None, map(LINE.fullmatch, run(require(f'{prefix}objdump'), '-d', '-z', '-w', *words,

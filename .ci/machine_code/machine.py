@@ -15,7 +15,7 @@ CONDITIONS = {'e': operator.eq, 'ne': operator.ne, 'b': operator.lt, 'ae': opera
 
 class Machine:
     """A processor that begins a function. Its registers hold terms. Memory consists of regions: the stack, and those
-    that the function is passed, by their size in bytes. Of these it may write only `written`."""
+    that the function is passed, by their size in bytes. It may write only to the stack and `written`."""
     # Where integers are passed, the stack pointer, what a function has to preserve, the part of its caller's stack that
     # it owns, and where the stack pointer may be at its start, in bytes above a multiple of the largest alignment.
     arguments, stack_pointer, saved, own_of_caller, entries = (), '', (), 0, ()

@@ -13,9 +13,10 @@ class Fault(Exception):
 
 
 class Term:
-    """A word that is no number. Each form has one object, which `make` returns. Parts of a `variable`: its name. Of a
-    `sum` or an exclusive or (`xor`): a number and the other terms, in a sum with their factors. Of a `product`: its
-    factors. Of `bits`: pieces of other words, from the lowest on, as (word, first bit, number of bits)."""
+    """A word that is no number. Each form has one object, which `make` returns. A `variable` has its name as
+    a part; a `sum`, a number, and the other terms with their factors; an exclusive or (`xor`), a number and the other
+    terms; a `product`, its factors; `bits`, pieces of other words, from the lowest on, as (word, first bit, number of
+    bits)."""
     __slots__ = 'kind', 'parts'
 
     def __init__(self, kind, *parts):

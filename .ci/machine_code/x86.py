@@ -50,7 +50,7 @@ class X86(Machine):
 
     def fault(self, words, cleared):
         """What is wrong. It is also wrong if words of blocks stay in a vector, except in the halves that the driver
-        clears. memset leaves nothing there."""
+        clears. memset leaves no such words there."""
         known = self.fresh('left')
         stay = [name for at, name in enumerate(VECTORS) if not all(
             word in (0, before, left) for word, before, left in [

@@ -21,8 +21,8 @@ STEPS = ['proved_argon2_job_begin', 'proved_argon2_job_fill', 'proved_argon2_job
          'any_order_of_steps']
 PRINTED = ['hash_raw', 'verify_encoded_within', 'proved_argon2_hash_over', 'proved_argon2_verify_over']
 CODE = {path: read(path) for path in sorted(TOP.glob('crates/*/src/**/*.rt'))}
-# How an import of definitions begins, a whole one, and one of a type of the code; a definition; and one without a
-# comment above it.
+# How an import of definitions begins; a whole import; an import of a type of the code; a definition; and a definition
+# without a comment above it.
 BEGIN = r'^ *(?:ghost use|use(?= \w+\.)) '
 IMPORT = re.compile(BEGIN + r'((?:\w+\.)*\w+)(?:\.\{([^}]*)\}| as \w+) ?(?:;|$)', re.M)
 OF_A_TYPE = re.compile(r'\.declared\.[a-z0-9_.]*([A-Z]\w*)')
@@ -93,7 +93,7 @@ class Door:
 
 
 def order_of(file):
-    """Crates in the order of crates.txt, and files in that of the file above them."""
+    """Crates in the order of crates.txt, and files in the order in which the file above names them."""
     crate, *_ = file.relative_to(TOP / 'crates').parts
     above = file.with_name('Lib.antt') if file.parent.name == 'specs' else file.parent.with_suffix('.antt')
     return crates().index(crate), above, read(above).index(f'pub mod {file.stem}\n')
@@ -126,7 +126,7 @@ def hash_of(texts):
 
 
 def doors():
-    """The doors: the first that needs a file lists it."""
+    """The doors. The page lists each file at the first door that needs it."""
     functions = Sources().functions
     free = [call for call in functions if call.path and not call.owner]
     for_c = [call for call in functions if call.crate == 'argon2_c'

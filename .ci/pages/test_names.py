@@ -44,7 +44,7 @@ WORD_IN_HELP = r'(?:\brt |\||\b\d:|#     \./argon2 |"){}(?![\w-])'
 # A link with its words, its path and its heading; a page's name; and the pages that are packed without the others.
 LINK = re.compile(r'\[([^\]]*)\]\((?!\w+:)([^)\s#]*)#?([^)\s]*)\)')
 PAGE, PACKED = re.compile(r'(?<![\w/.])(?:docs/)?[A-Z][A-Z0-9]*\.md'), re.compile(r'bindings/\w+/README\.md')
-# Names, links, paths and code, not searched since public; and the right column of the table of CONTRIBUTING.md.
+# Names, links, paths and code, which are public and so not searched; and the right column of CONTRIBUTING.md's table.
 NAMED = re.compile(r'`[^`]*`|\]\([^)]*\)|\S*(?:[_/]|::|\.\w)\S*')
 SAID_OTHERWISE = re.compile(r'^\| [^|]* \| [^|]* \| (?!Not)(\w[^|]*) \|$', re.M)
 

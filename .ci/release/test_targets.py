@@ -167,7 +167,7 @@ def test_first_lines_of_python_run_on_arm(python):
 
 
 def test_packages_of_debian_for_arm(packages, tmp_path):
-    """dpkg installs them over a state of its own, programs are built with them, and purged they leave nothing."""
+    """dpkg installs them over a state of its own, a program is built with them, and nothing is left after a purge."""
     there, program = tmp_path / 'there', tmp_path / 'quick_start'
     libraries, state = there / 'usr/lib/aarch64-linux-gnu', there / 'var/lib/dpkg'
     files = [*packages.glob('*_arm64.deb')]

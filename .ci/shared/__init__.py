@@ -26,7 +26,7 @@ def output_of(*words, **how):
 
 
 def ready(*parts):
-    """The folder with what build/make links: these released parts, or those for this machine."""
+    """The folder with what build/make links: these parts, or the part for this machine."""
     output_of('build/make', *parts)
     return TOP / 'bindings/out'
 

@@ -27,8 +27,8 @@ PROMISE = re.compile(r'^( *)(?:requires|ensures|ghost)\b.*(?:\n\1(?: .*|\}.*))*'
 AROUND = r'(?:Array|Slice|Ref|Tuple\d+)*'
 # A crate's mutants: each one that `rt ci` also tries has its own file in a folder; the others are blocks of one file.
 TRIED_ALONE, MUTANTS = 'must-fail', 'mutants.txt'
-# This file marks crates with theorems that no contract names: mutants may change statements and clauses. Elsewhere,
-# mutants whose goal is a lemma may change statements.
+# This file marks crates with theorems that no contract names. There, mutants may change statements and clauses;
+# elsewhere, only mutants whose goal is a lemma may change statements.
 STATEMENTS = 'specs/Statements.antt'
 REFUSED, PROVED = 'refused', 'proved'
 PAIR = re.compile(r'(?:^file: (.+)\n)?^old: (.+)\nnew: ?(.*)$', re.M)

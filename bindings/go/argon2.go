@@ -13,8 +13,8 @@
 //
 // # Threads
 //
-// A call of C occupies an operating-system thread until it returns, and the library starts a thread for each further
-// lane. [Hasher] says how many threads run.
+// A call of C occupies an operating-system thread until it returns. The library starts at most one thread for each
+// further lane, and none for a small hash. See [Hasher].
 package argon2
 
 import (
@@ -58,9 +58,9 @@ func Key(password, salt []byte, time, memory uint32, threads uint8, keyLen uint3
 	return deriveKey(I, password, salt, time, memory, threads, keyLen)
 }
 
-// IDKey derives a key with Argon2id, as golang.org/x/crypto/argon2 does, and panics as that does if time or threads
-// is 0. It also panics with an [Error] if memory runs out, or with less than 8 KiB of memory per thread, 8 bytes of
-// salt or 4 bytes of key: Argon2 has no such hash; x/crypto returns bytes.
+// IDKey derives a key with Argon2id, as golang.org/x/crypto/argon2 does. Both panic if time or threads is 0. IDKey also
+// panics with an [Error] if memory runs out, or if there are fewer than 8 KiB of memory per thread, 8 bytes of salt or
+// 4 bytes of key, which x/crypto accepts.
 func IDKey(password, salt []byte, time, memory uint32, threads uint8, keyLen uint32) []byte {
 	return deriveKey(ID, password, salt, time, memory, threads, keyLen)
 }

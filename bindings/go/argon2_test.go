@@ -28,7 +28,7 @@ func must[T any](value T, err error) T {
 	return value
 }
 
-// small returns settings whose hash takes little time, after these changes.
+// small returns settings whose hash takes little time, with these changes applied.
 func small(changes ...func(*Settings)) Settings {
 	s := OWASP2()
 	s.Memory, s.Time = 64, 1
@@ -49,8 +49,8 @@ func asInVectors(err error) string {
 	return "ERR " + strings.ToUpper(text[:1]) + text[1:]
 }
 
-// TestHashesEqualThoseOfOtherImplementations also compares 800 random ones of libargon2 if RANDOM_HASHES names a file
-// of them. It computes in a Hasher's buffers and in the call's memory.
+// TestHashesEqualThoseOfOtherImplementations also compares 800 random hashes of libargon2 if RANDOM_HASHES names a file
+// of them. HashRaw allocates its own memory, and the Hasher verifies in its buffers.
 func TestHashesEqualThoseOfOtherImplementations(t *testing.T) {
 	lines, hasher := linesOf("../vectors/raw.txt"), NewHasher(OWASP2(), 1, 0)
 	if file := os.Getenv("RANDOM_HASHES"); file != "" {
@@ -219,8 +219,8 @@ func panicOf(call func()) (found any) {
 	return nil
 }
 
-// TestBytesBesidePointersAreAccepted passes bytes of structs that have pointers too, which GODEBUG=cgocheck=2 must not
-// refuse.
+// TestBytesBesidePointersAreAccepted passes bytes of structs that also have pointers. GODEBUG=cgocheck=2 must accept
+// these calls.
 func TestBytesBesidePointersAreAccepted(t *testing.T) {
 	type user struct {
 		password, salt, key [16]byte

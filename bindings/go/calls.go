@@ -2,8 +2,8 @@
 
 package argon2
 
-// This file makes the calls of the C library. All cgo and all unsafe code of the module is here. The library is passed
-// pointers to the bytes of slices, without copies, and keeps none of them.
+// This file makes the calls of the C library. It has all cgo and unsafe code of the module; calls_go124.go has only cgo
+// directives. The library is passed pointers to the bytes of slices, without copies, and keeps none of them.
 
 /*
 #cgo linux,amd64 LDFLAGS: ${SRCDIR}/libproved_argon2_linux_amd64.a -lpthread
@@ -61,8 +61,8 @@ const (
 	maxVerifyingThreads = C.PROVED_ARGON2_MAX_VERIFYING_THREADS
 )
 
-// check returns the error of a hash with these settings, if any. Call it before a salt or a tag is allocated, which may
-// be long.
+// check returns the error of a hash with these settings, if any. Call it before you allocate a salt or a tag: both may
+// be huge.
 func (r run) check(password []byte, saltLength uint64) error {
 	settings := r.settings.c()
 	return errorOf(C.proved_argon2_check(&settings, C.uint64_t(len(password)), C.uint64_t(saltLength),
@@ -101,9 +101,9 @@ func (r run) compare(encoded string, password []byte) error {
 	})
 }
 
-// call makes a call in the buffer. If a stored hash needs more memory than the settings of the Hasher, the call
-// allocates its own: a larger buffer would be kept for as long as logins use it. The call also allocates its own memory
-// if the system denies a buffer.
+// call makes a call in the buffer. If a stored hash needs more memory than the Hasher's settings do, the call allocates
+// its own memory. A buffer of that size would stay allocated for as long as logins use it. The call also allocates its
+// own memory if the system denies a buffer.
 func (r run) call(threads uint32, limits *C.proved_argon2_limits,
 	attempt func(C.proved_argon2_options) C.uint32_t) error {
 	options := C.proved_argon2_options{size: C.sizeof_proved_argon2_options, threads: C.uint32_t(threads),
@@ -121,7 +121,7 @@ func (r run) call(threads uint32, limits *C.proved_argon2_limits,
 	return errorOf(number)
 }
 
-// grow replaces a buffer that is too small for these settings. If the system denies the new one, there is none.
+// grow replaces a buffer that is too small for these settings. If the system denies the new one, b becomes empty.
 func (b *buffer) grow(s Settings) {
 	settings := s.c()
 	if uint64(len(b.memory)) >= uint64(C.proved_argon2_memory_len(&settings)) {

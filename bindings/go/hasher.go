@@ -22,8 +22,8 @@ const idle = 10 * time.Second
 //
 // # Threads
 //
-// Each running hash occupies one operating-system thread of Go, and one more for each further lane (at most 15 if it
-// verifies), up to Settings.Threads in all. Callers that wait occupy none.
+// Each running hash occupies one operating-system thread of Go, and at most one more for each further lane (at most 15
+// if it verifies), up to Settings.Threads in all. A small hash occupies one. Callers that wait occupy none.
 //
 // # Buffers
 //
@@ -33,13 +33,13 @@ const idle = 10 * time.Second
 // allocates its own memory, and frees it.
 type Hasher struct {
 	queue    *queue
-	settings *Settings // a pointer: package fmt would print a value for the verbs %w and %p, with the secret
+	settings *Settings // a pointer, since for %w and %p package fmt would print a value with its secret
 	limits   Limits
 }
 
-// NewHasher returns a Hasher: concurrency (at least one) limits the hashes computed at a time, and waiting the callers
-// that wait. Its limits are [LimitsFor] the settings. It does not copy Settings.Secret and Settings.Data: do not change
-// their bytes while the Hasher is used.
+// NewHasher returns a Hasher. The number concurrency (at least one) limits how many hashes are computed at a time, and
+// waiting limits how many callers wait. Its limits are [LimitsFor] the settings. It does not copy Settings.Secret and
+// Settings.Data: do not change their bytes while the Hasher is used.
 func NewHasher(settings Settings, concurrency, waiting int) *Hasher {
 	concurrency = highest(concurrency, 1)
 	callers := concurrency + highest(waiting, 0)
@@ -96,7 +96,7 @@ func (h Hasher) Format(state fmt.State, verb rune) {
 	h.settings.Format(state, verb)
 }
 
-// enqueue makes a call in a place of the queue, until the context ends.
+// enqueue waits for a place in the queue, and makes a call in it. The end of the context stops both.
 func enqueue[T any](ctx context.Context, h *Hasher, call func(run) (T, error)) (value T, err error) {
 	buffer, err := h.queue.enter(ctx)
 	if err != nil {
@@ -139,7 +139,7 @@ type buffer struct {
 	since  time.Time // when the last call returned
 }
 
-// enter takes a place, and a buffer that is kept or an empty one.
+// enter takes a place, and returns a kept buffer or, if there is none, an empty one.
 func (q *queue) enter(ctx context.Context) (*buffer, error) {
 	if err := ctx.Err(); err != nil {
 		return nil, err

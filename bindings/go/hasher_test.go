@@ -22,7 +22,7 @@ func waitFor(t *testing.T, what string, isTrue func() bool) {
 // endless makes the hash of settings take hours.
 func endless(s *Settings) { s.Memory, s.Time, s.Lanes = 4096, 1<<31, 2 }
 
-// start has a Hasher compute a hash, and returns a channel for the error.
+// start makes a Hasher compute a hash in a goroutine, and returns a channel for the error.
 func start(ctx context.Context, h *Hasher) chan error {
 	ended := make(chan error, 1)
 	go func() {
@@ -32,7 +32,7 @@ func start(ctx context.Context, h *Hasher) chan error {
 	return ended
 }
 
-// hold has a Hasher compute an endless hash. It returns a function that cancels the hash, and returns its error.
+// hold makes a Hasher compute an endless hash. It returns a function that cancels the hash and returns its error.
 func hold(t *testing.T, h *Hasher) (cancel func() error) {
 	cancellable, end := context.WithCancel(ctx)
 	before, ended := len(h.queue.places), start(cancellable, h.With(small(endless)))
@@ -110,7 +110,7 @@ func TestCallersComputeOrWaitOrLeaveOrAreTurnedAway(t *testing.T) {
 	}
 }
 
-// TestNobodyIsTurnedAwayWhileNobodyWaits makes a call when the waiting call has a place, but is not running.
+// TestNobodyIsTurnedAwayWhileNobodyWaits makes a call when the waiting call has got a place but not yet resumed.
 func TestNobodyIsTurnedAwayWhileNobodyWaits(t *testing.T) {
 	defer runtime.GOMAXPROCS(runtime.GOMAXPROCS(1))
 	for i := 0; i < 50; i++ {

@@ -27,7 +27,7 @@ func TestMemoryDoesNotGrow(t *testing.T) {
 			must(HashRaw(password, password, small()))
 			if i%10 == 0 {
 				other := NewHasher(small(), 1, 0)
-				other.queue.idle = 20 * time.Millisecond // after the second hash, which replaces the buffer
+				other.queue.idle = 20 * time.Millisecond // the timer fires after the second hash replaced the buffer
 				must(other.Hash(ctx, password))
 				must(other.With(larger).Hash(ctx, password))
 			}

@@ -19,7 +19,7 @@ const (
 )
 
 // Settings say how a hash is made. Begin with [OWASP2]. The recommended settings are Argon2id with one lane, a 16-byte
-// salt and a 32-byte hash. For its two settings, RFC 9106 recommends four lanes: set Lanes.
+// salt and a 32-byte hash. RFC 9106 recommends four lanes for RFC9106 and RFC9106LowMem: to follow it, set Lanes.
 type Settings struct {
 	Variant    Variant
 	Version    uint32
@@ -62,14 +62,14 @@ func preset(memory, time uint32) Settings {
 	return Settings{Variant: ID, Version: Version, Memory: memory, Time: time, Lanes: 1, SaltLength: 16, HashLength: 32}
 }
 
-// Format prints the settings without the secret and the data, whatever the verb is, except %w and %p. As for a
-// [Pepper], package fmt does not call it for these, or for an unexported field of a struct.
+// Format prints the settings without the secret and the data, in one way for all verbs. As for a [Pepper], package fmt
+// does not call it for %w and %p, or for an unexported field of a struct.
 func (s Settings) Format(state fmt.State, _ rune) {
 	fmt.Fprintf(state, "{Variant:%d Version:%d Memory:%d Time:%d Lanes:%d Threads:%d SaltLength:%d HashLength:%d}",
 		s.Variant, s.Version, s.Memory, s.Time, s.Lanes, s.Threads, s.SaltLength, s.HashLength)
 }
 
-// threads returns how many threads may fill the lanes: Threads, but no more than most; 0 means most.
+// threads returns how many threads may fill the lanes: Threads, capped at the argument most, or most if Threads is 0.
 func (s Settings) threads(most uint32) uint32 {
 	if s.Threads == 0 || s.Threads > most {
 		return most

@@ -22,10 +22,10 @@ type Tuning struct {
 	Time     time.Duration
 }
 
-// Tune finds strong settings for this machine: it halves most.Memory until a hash takes at most the time within, and
-// then adds as many passes as fit, within [DefaultLimits]. The other settings are those of most. If even the least
-// settings for passwords take longer, or need more memory, it returns [ErrTooSlow]. Hashes take longer on a busy
-// machine.
+// Tune finds strong settings whose hash takes no longer than the argument within on this machine. It halves most.Memory
+// until a hash is fast enough, and then adds as many passes as fit, up to [DefaultLimits]. The other settings are those
+// of most. If even the weakest settings for passwords take longer, or need more memory, it returns [ErrTooSlow]. Hashes
+// take longer on a busy machine.
 func Tune(ctx context.Context, within time.Duration, most Settings) (Tuning, error) {
 	hasher := NewHasher(most, 1, 0)
 	return tune(within, most, func(s Settings) (least time.Duration, err error) {

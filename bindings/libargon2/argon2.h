@@ -59,7 +59,7 @@ typedef enum Argon2_ErrorCodes {
     ARGON2_OUTPUT_PTR_NULL = -1,
     ARGON2_OUTPUT_TOO_SHORT = -2,
     ARGON2_OUTPUT_TOO_LONG = -3,
-    ARGON2_PWD_TOO_SHORT = -4, /* never returned, like others below */
+    ARGON2_PWD_TOO_SHORT = -4, /* never returned */
     ARGON2_PWD_TOO_LONG = -5,
     ARGON2_SALT_TOO_SHORT = -6,
     ARGON2_SALT_TOO_LONG = -7,
@@ -93,7 +93,7 @@ typedef enum Argon2_ErrorCodes {
     ARGON2_VERIFY_MISMATCH = -35
 } argon2_error_codes;
 
-/* Sets *memory to an address, a multiple of 8, of that many bytes, or leaves it null. Its result is ignored. */
+/* Sets *memory to the address of that many bytes, a multiple of 8, or leaves it null. Its result is ignored. */
 typedef int (*allocate_fptr)(uint8_t **memory, size_t bytes_to_allocate);
 typedef void (*deallocate_fptr)(uint8_t *memory, size_t bytes_to_allocate);
 
@@ -114,7 +114,7 @@ typedef struct Argon2_Context {
     uint32_t threads;           /* at most so many at once */
     uint32_t version;           /* an argon2_version */
     allocate_fptr allocate_cbk; /* where the memory comes from, or null */
-    deallocate_fptr free_cbk;   /* frees it, filled with zeros, or null */
+    deallocate_fptr free_cbk;   /* frees the memory, which is all zeros; or null */
     uint32_t flags;
 } argon2_context;
 
@@ -162,7 +162,7 @@ ARGON2_PUBLIC int argon2_hash(const uint32_t t_cost, const uint32_t m_cost, cons
 /* Whether an encoded hash is of this type and this password: ARGON2_OK only where it is. */
 ARGON2_PUBLIC int argon2_verify(const char *encoded, const void *pwd, const size_t pwdlen, argon2_type type);
 
-/* The same for one type, with version 0x13. */
+/* The same for one type. The hashing calls use version 0x13. */
 #define ARGON2_CALLS_OF(variant) \
     ARGON2_PUBLIC int variant##_hash_encoded(const uint32_t t_cost, const uint32_t m_cost, const uint32_t parallelism, \
         const void *pwd, const size_t pwdlen, const void *salt, const size_t saltlen, const size_t hashlen, \

@@ -1,6 +1,6 @@
 //! Finds `libproved_argon2.a` for the target and links it. It looks in the folder that `PROVED_ARGON2_LIB_DIR` names,
 //! in this crate (where `./package` puts it), in the repository's `release/`, and where `pkg-config` finds it. If
-//! `release/` has no archive for the target, a C compiler builds one from the library as C.
+//! there is none for a Linux target, a C compiler builds one from the C sources in `release/portable`.
 
 use std::env;
 use std::fs;

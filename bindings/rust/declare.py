@@ -33,7 +33,7 @@ def argument(found):
 
 
 def declaration(returned, name, taken):
-    """A call in lines as in the header."""
+    """The declaration of a call in Rust, with the line breaks of the header."""
     arguments = "" if taken == "void" else ARGUMENT.sub(argument, taken).replace("\n", "\n    ")
     return f"    pub fn {name}({arguments}){'' if returned == 'void' else f' -> {TYPES[returned]}'};\n"
 

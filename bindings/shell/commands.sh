@@ -49,7 +49,7 @@ least_glibc=2.34
 # How many bytes of a line a terminal gives at most. It drops the rest silently.
 terminal_line=4095
 
-# How much of its input the tool reads at most: one byte more than the longest password that it takes.
+# How much input `new` reads at most: one byte more than the longest password that it takes.
 most_read=65537
 
 main() {
@@ -134,7 +134,7 @@ require_loader() {
 
 # ---- the processor
 
-# The builds that this processor runs, the newest first, into `builds`: nothing where it is older than all.
+# Sets `builds` to the builds that this processor can run, the newest first, or to nothing if none can run.
 find_builds() {
     builds=
     case $(uname -m) in
@@ -148,7 +148,7 @@ find_builds_of_x86() {
     while [ ! "$flags" ] && read -r field line; do
         case $field in flags*) flags=" ${line#: } " ;; esac
     done 2>/dev/null </proc/cpuinfo
-    # (where the system does not say what the processor has, the oldest runs)
+    # (if the system does not list the processor's flags, only the oldest build is named)
     [ "$flags" ] || { builds=$oldest_build && return; }
     build=
     for word in $flags_of_builds end:; do
@@ -327,8 +327,8 @@ tune() {
     printf 'argon2id 19 %s %s 1 32 seq\n' "$passes" "$memory" || exit 4
 }
 
-# Sets `memory`, `passes` and `took` to the most memory whose hash takes no longer, with the fewest passes:
-# `find_memory MILLISECONDS KIB`.
+# Sets `memory` to the most memory whose hash takes at most MILLISECONDS, `passes` to the fewest passes for it, and
+# `took` to its time: `find_memory MILLISECONDS KIB`.
 find_memory() {
     memory=$2 took=$(($1 + 1))
     while [ "$took" -gt "$1" ] && [ "$memory" -ge "$least_memory" ]; do
@@ -342,7 +342,7 @@ find_memory() {
     fail 1 "tune: no settings for passwords within $2 KiB take at most $1 milliseconds here"
 }
 
-# Raises `passes`, whose hash took `took`, as long as the hash takes at most MILLISECONDS and `check` accepts it:
+# Raises `passes`, whose hash took `took`, to the most whose hash takes at most MILLISECONDS and passes `check`:
 # `add_passes MILLISECONDS`.
 add_passes() {
     fitting=$passes

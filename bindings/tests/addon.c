@@ -1,5 +1,5 @@
-/* Loads Node's addon that is named where there is no Node, such as with musl or on ARM64, and prints the code and the
- * tag of a hash by it. What it calls of Node-API is here, for that hash alone. */
+/* Loads the named addon of Node on a system without Node, such as with musl or on ARM64. Hashes with the addon, and
+ * prints the code and the tag. This file has the part of Node-API that the addon calls for this hash. */
 #include "node_api.h"
 #include "proved_argon2.h"
 

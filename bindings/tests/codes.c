@@ -27,7 +27,7 @@ static uint32_t checking, answer, reading, shortage, kib;
 enum { COMPUTING, JUDGING, TELLING, KINDS };
 static char passed[KINDS][400];
 
-/* Of the last call with options, which names no pool: how many threads it asked for; how many bytes of memory it was
+/* The last call with options, which must name no pool: how many threads it asked for; how many bytes of memory it was
  * passed, or -1; and what its progress callback returned, or -1 without a callback. */
 static uint32_t threads;
 static int64_t memory_len, progress_result;

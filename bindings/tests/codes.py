@@ -52,7 +52,7 @@ each_call = pytest.mark.parametrize("name", CALLS)
 
 
 def said_of(number):
-    """The stub's message for a number; all strings that are no encoded hash share one."""
+    """The stub's message for a number. NOT_ASCII has that of DECODING_FAIL: both mean no encoded hash."""
     return f"N{(HEADER['DECODING_FAIL'] if number == HEADER['NOT_ASCII'] else number) % 1000:03}"
 
 
@@ -90,8 +90,8 @@ def gives(place, call, values, other, saw=lambda number: True):
 @each_call
 @pytest.mark.parametrize("is_kept", [False, True])
 def test_a_call_gives_for_each_number_what_the_table_says(name, is_kept):
-    """It passes its arguments in order, and asks for as many threads as lanes. A buffer is allocated only if the
-    library says that it is too small, with the size of the settings or the string."""
+    """It passes its arguments in order, and asks for as many threads as lanes. A larger buffer is allocated only if
+    the library says that it is too small. Its size is that of the settings, or of those in the string."""
     codes, other = CODES[name], errors.HashingError if name.startswith("hash") else errors.VerificationError
     values = {number: VALUES[value] for number, value in codes.values.items()}
     telling, memories = codes.telling if codes.hashes else CODES["read"].telling, []

@@ -34,7 +34,7 @@ const HASH: &[u8] = b"hash";
 const KEY: &[u8] = b"key";
 const DATA: &[u8] = b"data";
 
-/// What a call returns that allocates its own memory, that computes in a buffer, or that runs by a `Run`.
+/// What a call returns: it allocates its own memory, computes in a buffer, or is made by a `Run`.
 fn call(name: &str, how: &str, memory: &mut Memory) -> Box<dyn Debug> {
     match (name, how) {
         ("hash_raw", "alone") => Box::new(hash_raw(WORD, SALT, &CONFIG)),

@@ -237,8 +237,8 @@ fn ends_well_in_a_child(work: impl FnOnce()) -> bool {
     status == 0
 }
 
-/// In a forked child all places are free, though the parent holds one and others wait, and it uses no buffer of the
-/// parent, not even in a place that it inherits.
+/// In a forked child all places are free, though the parent holds both and another thread waits. The child uses no
+/// buffer of the parent, not even in a place that it inherits.
 fn a_forked_child_has_all_places_and_no_buffer() {
     let line = Line::new(2, 1);
     let (held, mut inherited) = (line.wait().unwrap(), line.wait().unwrap());

@@ -1,6 +1,6 @@
 """The code of the pages works: their first lines, the PHP code of docs/USE.md, and docs/examples, under more logins at
-once than they have places for. The manual pages and the help agree with the header, the library and the program; a
-script writes their errors and limits."""
+once than they have places for. The manual pages and the help agree with the header, the library and the program. (A
+script writes the errors and limits in them.)"""
 import os
 import re
 import shutil
@@ -97,7 +97,7 @@ def test_the_lines_for_php_move_a_hash_to_argon2():
 
 
 def serves(*words, **named):
-    """Runs a service. A user's name forges a log line: the log mentions it, but not as a line."""
+    """Runs a service. A user's name tries to forge a log line: the log contains it, but not as a line."""
     done = start(*words, **named)
     assert done.returncode == 0, done.stderr[-9000:]
     assert "logged in: root" in done.stderr and not re.search(r"^(INFO:root:)?logged in: root", done.stderr, re.M)

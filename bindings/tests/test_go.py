@@ -188,7 +188,7 @@ def test_threads_that_are_denied_change_no_hash(module, env, drawn, tmp_path):
 
 # ---- each number of the library, over the stubs of codes.c
 
-# The calls of codes.txt that Go has, and whether a function of the package and a method of a Hasher make them.
+# The calls of codes.txt that Go has. False: a function of the package makes the call. True: a Hasher's method makes it.
 CALLS = {"hash_raw": [False], "hash_encoded": [False, True], "verify_encoded_alone": [False],
          "verify_encoded_within": [True], "needs_rehash": [False]}
 VALUES = {"tag": "xxxxx", "text": 12 * "x", "true": "true", "false": "false"}
@@ -411,7 +411,7 @@ def package(tmp_path_factory):
 
 @pytest.mark.parametrize("way", ["replace", "proxy"])
 def test_a_program_is_built_with_the_package(package, env, tmp_path, way):
-    """It is unpacked and named by the lines of the page, or it is in a folder that serves modules."""
+    """go.mod names the unpacked package with the lines of the page, or Go gets it from a folder as from a proxy."""
     run("unzip", "-q", package, "-d", tmp_path / "modules")
     folder = tmp_path / "program"
     folder.mkdir()

@@ -1,4 +1,4 @@
-"""The jar for Java: its own tests in Java 17, 21 and 25, its pages for programmers, and what it needs to load."""
+"""The jar for Java: its own tests in Java 17, 21 and 25, its documentation, and how it loads its library."""
 import re
 import shutil
 import zipfile
@@ -36,7 +36,7 @@ uint32_t proved_argon2_password_verify_unknown(const proved_argon2_options *opti
     return options != NULL && settings != NULL && password != NULL && pepper != NULL && length + len == 7 ? answer : 0;
 }
 """
-# Denies what a file in a folder names: `threads`, `memory` (16 MiB or more), or that memory `once`.
+# Denies what the name of a file in $DENIED says: `threads`, `memory` (16 MiB or more), or `once` the next such memory.
 DENYING = """#define _GNU_SOURCE
 #include <dlfcn.h>
 #include <errno.h>
@@ -96,7 +96,7 @@ exec chroot "$system" env -C "$PWD" "${@:2}"
 
 @pytest.fixture(scope="module")
 def jar(tmp_path_factory):
-    """With only this machine's library. (The compiler has no warning about the package.)"""
+    """The jar, with only this machine's library. (`pack` fails if a compiler warns.)"""
     file = tmp_path_factory.mktemp("jar") / "proved-argon2.jar"
     run(JAVA / "pack", file, built() / MACHINE, env=DATED)
     return file
@@ -115,7 +115,7 @@ def path_of(*files):
 
 
 def words_of(jar, classes, drawn, *words):
-    """The command of JUnit. (The collector does not run, so it copies no password while tests check its clearing.)"""
+    """The command of JUnit. (With this much memory the collector copies no password while tests search for copies.)"""
     temporary = jar.parent / "temporary"
     temporary.mkdir(exist_ok=True)
     values = {"vectors": TOP / "bindings/vectors", "tables": TESTS, "random": drawn["RANDOM_HASHES"],
@@ -251,7 +251,7 @@ def test_the_native_calls_hash_and_verify_where_no_java_runs(tmp_path, compiler,
     assert said.split() == ["right"]
 
 
-def test_the_library_can_be_named_and_another_is_an_error(jar, tmp_path):
+def test_the_library_can_be_named_and_a_missing_one_is_an_error(jar, tmp_path):
     program = tmp_path / "Program.java"
     program.write_text("class Program { public static void main(String[] none) {\n"
                        "System.out.println(new proved.argon2.PasswordHasher().verifyUnknown(new byte[0])); } }")

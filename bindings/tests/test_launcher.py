@@ -42,7 +42,7 @@ def write_program(file, text):
 
 
 class Tree:
-    """The sources that the script reads, one word each, and of the toolchain only its name."""
+    """The sources that the script reads, each with one word as its text, and a stub of the toolchain."""
 
     def __init__(self, folder):
         self.folder, self.runs = folder, folder / "runs"
@@ -133,7 +133,7 @@ def test_a_failed_build_has_status_70_and_its_message_even_if_there_was_a_progra
 
 @pytest.fixture(scope="module")
 def clone(built, tmp_path_factory):
-    """A copy of the repository, with a release that is what is built here, and nothing else."""
+    """A copy of the repository, with a release of what is built here, and no other built files."""
     folder = tmp_path_factory.mktemp("clone")
     run("sh", "-c", "git ls-files -z --cached --others --exclude-standard -- ':!release' | tar -c --null -T - | "
         'tar -x -C "$0"', folder)

@@ -1,6 +1,6 @@
 """Our replacement (bindings/libargon2) beside Debian's libargon2: its names, the vectors of libargon2's tests, random
-calls (SEED, or any), Debian's programs with both, processes that are denied threads, memory or a callback's memory, and
-what calls leave in memory. Faults planted into it have to be found.
+calls (their seed is SEED, or random), Debian's programs with both, processes that are denied threads, memory or a
+callback's memory, and what calls leave in memory. Faults planted into it have to be found.
 """
 import os
 import re

@@ -1,6 +1,6 @@
-"""Makes the packages, here and elsewhere as another user, and inspects each. Each alone, without the toolchain and
-this repository, runs the first lines of the pages (debian/tests), and its removal leaves nothing. Fresh systems of
-other releases install them, and switch to our libargon2 and back."""
+"""Makes the packages, here and elsewhere as another user, and inspects each. Each package by
+itself, without the toolchain and this repository, runs the first lines of the pages (debian/tests), and leaves nothing
+when it is removed. Fresh systems of other releases install them, and switch to our libargon2 and back."""
 
 import os
 import re
@@ -22,15 +22,16 @@ DEBS = {  # what each requires, and the page that it has besides the common ones
 ASKS = {f'{name}_{VERSION}-1_{of}.deb': what for name, what in DEBS.items() for of in ('amd64', 'arm64')}
 ASKS[f'python3-proved-argon2_{VERSION}-1_all.deb'] = (
     f'python3:any, libproved-argon2-1 (= {VERSION}-1)', 'docs/PYTHON.md')
-# What dpkg is told, or runs as root, for a package, beside the files `control` and `md5sums`: the lines, or the script
-# that dh_python3 makes of this text of Debian's.
+# The files that dpkg reads, or runs as root, for a package, besides `control` and `md5sums`: a file's lines, or the
+# text of Debian's from which dh_python3 makes a script.
 TOLD = {
     'libproved-argon2-1': {'shlibs': f'libproved_argon2 1 libproved-argon2-1 (>= {VERSION})'},
     'proved-libargon2-1': {'shlibs': 'libargon2 1 libargon2-1 (>= 0~20171227)'},
     'python3-proved-argon2': {name: Path(f'/usr/share/debhelper/autoscripts/{name}-{text}')
                               for name, text in (('postinst', 'py3compile'), ('prerm', 'py3clean'))}}
+# A version whose second number grew has new calls, so programs that are linked with it depend on it.
 SYMBOLS = re.compile(r'(libproved_argon2|libargon2)\.so\.1 [\w-]+ #MINVER#\n(\* Build-Depends-Package: [\w-]+\n)?'
-                     r'( \w+@\w+ [\d.~]+\n)+')
+                     rf'( \w+@\w+ ({re.escape(VERSION.rpartition(".")[0])}\.0|0~20171227)\n)+')
 WHEELS = [f'proved_argon2-{VERSION}-py3-none-manylinux_2_34_{of}.whl'
           for of in ('x86_64.musllinux_1_2_x86_64', 'aarch64')]
 TARBALLS = [f'proved-argon2-{VERSION}-{machine}.tar.gz' for machine in machines()]
@@ -188,9 +189,9 @@ def test_a_package_for_debian_tells_dpkg_nothing_else_and_runs_nothing_else_as_r
         file: lines_of(text.replace('#ARGS#', '')) for file, text in expected.items()}
 
 
-# ---- where neither the kit nor the repository can be seen
+# ---- where neither the toolchain nor the repository can be seen
 
-# Over a copy of this system that is gone afterwards.
+# Runs a script in an overlay of this system, which is discarded afterwards.
 ALONE = '''
 mount -t tmpfs none "$1" && mkdir "$1"/{new,work,all,hidden} && all=$1/all
 mount -t overlay overlay -o "lowerdir=/,upperdir=$1/new,workdir=$1/work" "$all"
@@ -289,8 +290,8 @@ def test_each_package_works_alone_and_leaves_nothing_when_removed(with_pages, tm
 
 THERE = '''mount --rbind /dev "$1/dev" && mount -t proc proc "$1/proc"
 exec chroot "$1" env -i PATH=/usr/local/bin:/usr/sbin:/usr/bin:/sbin:/bin bash -Eeuo pipefail -c "$2"'''
-# Installs packages, or takes them back to Debian's; PHP then calls the library of PACKAGE, and OTHERS are there:
-# `swaps 'PACKAGES' PACKAGE OTHER..`. The development files stay with either library; ours replace Debian's if
+# `swaps 'PACKAGES' PACKAGE OTHER..` installs packages, or Debian's in their place. PHP then has to call the library of
+# PACKAGE, and OTHERS have to be installed. The development files stay with either library; ours replace Debian's if
 # both our packages are named.
 SWAPS = '''export DEBIAN_FRONTEND=noninteractive; cd /packages
 trap 'echo "status $?: $BASH_COMMAND" >&2' ERR

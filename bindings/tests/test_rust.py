@@ -138,7 +138,7 @@ SHOWN = {"tag": "Ok([120, 120, 120, 120, 120])", "text": f'Ok("{12 * "x"}")', "t
                                                "time_cost: 3, variant: Argon2id, version: Version13 })"}
 ERRORS = {number: name.title().replace("_", "") for name, number in HEADER.items()
           if number in (*range(1, 64), 129, 130, 131) and re.fullmatch("[A-Z_]{3,}", name)}
-# (a string with a byte above 127 is no encoded hash, as any other that cannot be decoded)
+# (a string with a byte above 127 has the same error as one that cannot be decoded)
 ERRORS[HEADER["NOT_ASCII"]] = ERRORS[HEADER["DECODING_FAIL"]]
 MOST = 0xFFFFFFFF
 # How calls are made, and what their progress callback returns.
@@ -183,8 +183,8 @@ def test_each_call_returns_for_each_number_what_the_table_says(ask, name):
 
 @pytest.mark.parametrize("name", [name for name, codes in CODES.items() if codes.computing])
 def test_a_buffer_is_reused_and_replaced_by_a_larger_one(ask, name):
-    """The old buffer is freed before the larger one is allocated. If that is denied there is none, and the next call
-    allocates one."""
+    """The old buffer is freed before the larger one is allocated. If the system denies that, there is
+    no buffer, and the next call allocates one."""
     answers = {"then": HEADER["OUT_OF_MEMORY"]}
     said = ask([*((name, "over", {**answers, "memory": refused, "kib": kib}) for _, kib, refused, _ in MEMORIES),
                 ("new_memory", "", {}), ("limits", "", {})])
@@ -270,8 +270,8 @@ def test_the_tests_of_rust_argon2_pass(cargo, tmp_path):
 
 
 def test_the_page_has_the_arguments_of_the_calls():
-    """In order. The calls in a buffer share a row: each takes the buffer first, and then the arguments of the call
-    without `_in`, or with `_ext` if there is one."""
+    """The arguments are in order. The calls in a buffer share a row: each takes the buffer first, and then the
+    arguments of the call with `_ext` in place of `_in`, or of that without either if there is none."""
     same = {"text": "encoded", "mem": "mem_cost", "time": "time_cost", "lanes": "parallelism"}
     code = "".join(file.read_text() for file in CRATE.glob("src/*.rs") if file.name != "ffi.rs")
     calls = re.findall(r"^pub fn (\w+)(?:<'\w+>)?\(([^)]*)\)", code, re.M)

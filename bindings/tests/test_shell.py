@@ -101,7 +101,7 @@ def test_an_older_glibc_is_named_with_status_70(for_newer_glibc, tmp_path):
     expected = 70, b"", b"proved-argon2: the programs need glibc 2.34 or newer, which this system does not have\n"
     for words in (["new"], ["check", STORED], ["verify", STORED], ["tune", "9"], ["hash"], ["hlep"]):
         assert piped(words, b"password", command=for_newer_glibc) == expected, words
-    # with another loader, such as musl's, the shell finds none
+    # on a system with another loader, such as musl's, the shell does not find the program's own
     for program in tmp_path.glob("libexec/proved-argon2/*/argon2_tool"):
         code = program.read_bytes()
         program.write_bytes(code.replace(b"/lib64/ld-linux-x86-64.so.2", b"/lib64/ld-other-x86-64.so.2"))
@@ -291,7 +291,7 @@ def test_tune_warns_if_the_machine_was_busy(run_script, limits, load, is_busy):
 
 @pytest.mark.parametrize("row", TUNINGS, ids=" ".join)
 def test_tune_finds_what_the_table_says(run_script, limits, tmp_path, row):
-    """Each hash advances the clock by its cost minus a nanosecond: `tune` rounds whole milliseconds up."""
+    """Each hash advances the clock by its cost minus a nanosecond: `tune` rounds up to whole milliseconds."""
     milliseconds, kib, power, *found = row
     (tmp_path / "clock").write_text("1700000000000000000")
     cost = " * ".join(["3000000 * $5", *["$4"] * int(power)])

@@ -19,8 +19,8 @@ type users interface {
 	Save(name string, old, updated argon2.Stored)
 }
 
-// logIn returns a handler that lets a user in. The peppers compute in argon2.NewHasher(argon2.OWASP2(), 2, 64): two
-// logins at a time, and 64 wait. If the client leaves, the context of its request ends, and with it the hash.
+// logIn returns a handler that lets a user in. Make the peppers with argon2.NewHasher(argon2.OWASP2(), 2, 64), so that
+// two logins compute at a time and 64 wait. If the client leaves, the context of its request ends and stops the hash.
 func logIn(peppers *argon2.Peppers, users users) http.HandlerFunc {
 	return func(w http.ResponseWriter, r *http.Request) {
 		r.Body = http.MaxBytesReader(w, r.Body, 3*longest+1024) // a byte of a form may be written as three

@@ -17,7 +17,7 @@ enum {
     WAITING = 64    /* logins that wait for a place */
 };
 
-/* What to answer: let the user in; reject with HTTP status 401; twice "try again later", with 503. */
+/* What to answer: let the user in; reject with HTTP status 401; for BUSY and ERROR "try again later", with 503. */
 enum verdict { MATCHES, DIFFERS, BUSY, ERROR };
 
 /* A reusable buffer for one hash at a time. It spares the time in which the system maps, clears and unmaps memory. */

@@ -1,5 +1,5 @@
 // The logins of a service, as docs/USE.md describes them. The file that includes this one has `PEPPER`, a key from a
-// secret store, and the line: `argon2::Line::new(2, 64)`, in which two logins compute at a time and 64 wait.
+// secret store, and the queue `argon2::Line::new(2, 64)`, in which two logins compute at a time and 64 wait.
 
 use std::ops::ControlFlow;
 

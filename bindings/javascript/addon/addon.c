@@ -1,5 +1,5 @@
 /* The library as an addon of Node: its calls, and runs in threads of its own. Only the package's own code calls it
- * (src/native.js). It passes typed arrays of the right lengths, which stay as they are until a call or a run has ended.
+ * (src/native.js). It passes typed arrays of the right lengths, and changes none but a run's control until the end.
  * The addon is tested and not proved. */
 #define _GNU_SOURCE
 #include "node_api.h"
@@ -25,7 +25,7 @@ typedef struct control {
     uint32_t is_reported;
 } control;
 
-/* A kind of run: how many arrays it is passed, what it computes of them, and which settings that takes. */
+/* A kind of run: how many arrays it is passed, the function that computes, and the function that finds the settings. */
 typedef struct kind {
     size_t parts;
     uint32_t (*compute)(const proved_argon2_options *with, const part *parts);
@@ -238,7 +238,7 @@ static void *compute_all(void *arg)
         pthread_cond_broadcast(&pool.is_over);
     }
     pool.threads--;
-    pthread_cond_signal(&pool.has_run); /* (another thread frees the buffer that was kept here) */
+    pthread_cond_signal(&pool.has_run); /* (wakes a waiting thread, which will free the buffer kept here) */
     pthread_mutex_unlock(&pool.lock);
     return arg;
 }
@@ -269,8 +269,8 @@ static void abandon(void *arg)
     await_end(self);
 }
 
-/* In the JavaScript thread: passes the listener the counts of filled slices and of all or, at the end, 0 and the
- * code. */
+/* In the JavaScript thread: passes the listener how many slices are filled and how many there are. At the end, it
+ * passes 0 and the code. */
 static void hear(napi_env env, napi_value listener, void *context, void *data)
 {
     run *const self = context;

@@ -22,13 +22,13 @@ DECLARED = re.compile(r"^(?:async )?(?:function|const|let|class) (\w+)", re.M)
 
 
 class Bundle:
-    """Files of the package, those that others import first."""
+    """Files of the package. A file comes after those that it imports."""
 
     def __init__(self, folder, assets=None):
         self.folder, self.assets, self.exports = folder, assets, {}
 
     def text(self, name):
-        """A file's text, behind that of the files that it imports, if these are not there already."""
+        """A file's text after the texts of the files that it imports, without those already returned."""
         if name in self.exports:
             return ""
         is_asset = name == "assets" and self.assets is not None
@@ -53,7 +53,7 @@ def checked(text):
 
 
 def inlined(folder, modules):
-    """The code in front of the package's: what its assets are."""
+    """The code in front of the package's own code: constants that contain its assets."""
     assets = {"WORKER": f"(() => {{\n'use strict';\n{checked(Bundle(folder).text('worker'))}}})();\n"}
     for name, file in MODULES.items():
         assets[name] = base64.b64encode((modules / file).read_bytes()).decode()

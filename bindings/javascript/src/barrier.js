@@ -27,7 +27,7 @@ export class Barrier {
         Atomics.notify(this.#words, word);
     }
 
-    /** Waits until a word is above a number, or says that no further step follows. Returns the word. */
+    /** Waits until a word is above a number, or is OVER. Returns the word. */
     #waitFor(word, below) {
         for (;;) {
             const value = Atomics.load(this.#words, word);

@@ -19,7 +19,7 @@ const { keys: requireInBounds } = TypedArray;
 /** The maximum number of bytes that a UTF-16 code unit takes in UTF-8. */
 const MOST_BYTES_OF_UNIT = 3;
 
-/** Allocates bytes outside the engine's heap, where the garbage collector would move them and leave copies behind. */
+/** Allocates bytes outside the engine's heap, since the garbage collector moves what is on it and leaves copies. */
 export const allocate = (length) => new Uint8Array(new ArrayBuffer(length));
 
 export function copyOf(bytes) {
@@ -55,8 +55,8 @@ export function bytesOf(name, value, expected = BYTES) {
 }
 
 /**
- * A password as bytes, a string in UTF-8. Half of a surrogate pair has no UTF-8: it is rejected, since an encoder would
- * replace it, and different passwords would become the same bytes.
+ * A password as bytes; a string is encoded in UTF-8. Half of a surrogate pair has no UTF-8: it is rejected, since an
+ * encoder would replace it, and different passwords would become the same bytes.
  */
 export function passwordOf(value) {
     if (typeof value !== 'string') {

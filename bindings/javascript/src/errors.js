@@ -1,4 +1,4 @@
-// The errors of calls: a class for each error of the library, with the number that it has in C.
+// The errors of calls, each with a class. Those of the library have the numbers that they have in C.
 
 /** A call failed. `name` is the name of the error's class, and `code` is its number. */
 export class Argon2Error extends Error {}

@@ -1,6 +1,6 @@
 /** Argon2 password hashing (RFC 9106) by proved code: an addon in Node, and a WebAssembly module elsewhere. */
 
-/** Argon2d: which block a block refers to depends on other blocks, thus on the password (RFC 9106, section 1). */
+/** Argon2d: each block's reference depends on the contents of blocks, so on the password (RFC 9106, section 1). */
 export const argon2d: 0;
 /** Argon2i: the references depend on no block. */
 export const argon2i: 1;
@@ -48,7 +48,7 @@ export interface Running {
     signal?: StopSignal;
     /** `true` computes only by Node's addon, `false` only by WebAssembly. By default the addon computes if it loads. */
     native?: boolean;
-    /** `false` computes by WebAssembly in the caller's thread, even if `native` is `true`, one call after another.
+    /** `false` computes by WebAssembly in the caller's thread, one call after another, even if `native` is `true`.
      * After each slice other tasks of the thread run. */
     worker?: boolean;
     /** The maximum number of workers or threads, at least 1. Verifying uses at most 16. Default: one for each lane, if
@@ -60,8 +60,8 @@ export interface Running {
 
 /** The options of a `Line`: its limits, and the settings of a hash, from which the default limits are computed. */
 export interface LineOptions extends Settings {
-    /** How many calls compute at the same time. Without it, the processors divided by the lanes, or fewer if their
-     * hashes exceed a quarter of the memory. */
+    /** How many calls compute at the same time. Default: the number of processors divided by the lanes, or fewer if
+     * that many hashes exceed a quarter of the memory. */
     concurrency?: number;
     /** How many more calls may wait. Without it, 16 times as many as may compute. */
     waiting?: number;
@@ -78,7 +78,7 @@ export class Line {
     readonly concurrency: number;
     /** How many more may wait. */
     readonly waiting: number;
-    /** Calls a function in its turn, and counts it until it has ended. In it, make calls without the option `line`. */
+    /** Calls a function in its turn, and counts it until it has ended. In the function, make calls without `line`. */
     run<T>(call: () => T | PromiseLike<T>, options?: { signal?: StopSignal }): Promise<T>;
 }
 
@@ -187,14 +187,14 @@ export class PepperedHasher {
     /** Hashes a password with the newest pepper. */
     hash(password: string | Bytes, options?: PepperOptions): Promise<Peppered>;
     /**
-     * As the function of this name, with the pepper of an ID. If the hash has an older pepper, the password is hashed
-     * anew with the newest. For an unknown ID, and for null without `acceptUnpeppered`, it rejects with
+     * Like the function `verifyAndUpdate`, with the pepper of an ID. If the hash has an older pepper, the password is
+     * hashed anew with the newest. For an unknown ID, and for null without `acceptUnpeppered`, it rejects with
      * `UnknownPepper`.
      */
     verifyAndUpdate(
         keyId: string | null, encoded: string, password: string | Bytes, options?: PepperOptions,
     ): Promise<{ matches: boolean, update: Peppered | null }>;
-    /** As the function of this name, with the newest pepper. */
+    /** Like the function `verifyUnknown`, with the newest pepper. */
     verifyUnknown(password: string | Bytes, options?: PepperOptions): Promise<false>;
 }
 
@@ -218,8 +218,8 @@ export interface Tuning {
 
 /**
  * Finds strong settings whose hash takes at most `milliseconds` here: it halves `memoryCost` until a hash fits,
- * and then adds passes, within the default limits. It rejects with `RangeError` if the least settings for passwords (7
- * MiB, 5 passes, or equal work) take longer.
+ * and then adds passes, within the default limits. It rejects with `RangeError` if no halved memory of at least 7
+ * MiB, with at least the work of 7 MiB in 5 passes, is fast enough.
  */
 export function tune(milliseconds: number, options?: TuneOptions): Promise<Tuning>;
 
@@ -259,7 +259,7 @@ export const defaultLimits: Readonly<Required<Limits>>;
 export class Argon2Error extends Error {
     /** The name of its class. */
     readonly name: string;
-    /** Its number, as the library for C has it. */
+    /** Its number: that of the library for C, or one from 256 on for errors that only this package has. */
     readonly code: number;
 }
 
@@ -325,7 +325,7 @@ export class AbortError extends Error {
     readonly code: 'ABORT_ERR';
 }
 
-/** All of these as one object, for `import argon2 from`. */
+/** All of these except the errors, as one object, for `import argon2 from`. */
 declare namespace argon2 {
     export {
         hash, verify, verifyAndUpdate, verifyUnknown, needsRehash, Line, PepperedHasher, tune, argon2d, argon2i,

@@ -50,7 +50,7 @@ export class Memory {
         this.#top = this.#base;
     }
 
-    /** A new memory, which other workers can join if the module is the one for that. */
+    /** A new memory. Other workers can join it if the module is the one for shared memories. */
     static async open(module) {
         const memory = importsMemory(module) ? makeShared() : undefined;
         const instance = await WebAssembly.instantiate(module, { env: { memory } });
@@ -73,7 +73,7 @@ export class Memory {
         return this.#memory.buffer.byteLength;
     }
 
-    /** Takes a place for some elements of a size in bytes. It is zero where nothing was taken before. */
+    /** Takes a place for some elements of a size in bytes. Bytes that no earlier place had are zero. */
     take(length, size = 1) {
         const alignment = size === 1 ? 16 : size;
         const at = Math.ceil(this.#top / alignment) * alignment;
@@ -147,7 +147,7 @@ export class Memory {
         this.#overwrite(at, at + length);
     }
 
-    /** Overwrites by words, since an engine may write shared bytes one by one. Places of bytes begin at words. */
+    /** Overwrites by words, since an engine may write shared bytes one by one. Places of bytes are aligned to words. */
     #overwrite(from, to) {
         new BigUint64Array(this.#memory.buffer, from, Math.ceil((to - from) / 8)).fill(0n);
     }

@@ -64,7 +64,7 @@ function callOver(memory, name, ...values) {
     }
 }
 
-/** The addon's quick calls, made by the module. */
+/** The same quick calls as those of the addon, computed by the module. */
 export async function openCalls() {
     const memory = await opened.get();
     const call = (...values) => callOver(memory, ...values);

@@ -32,7 +32,7 @@ export class PepperedHasher {
         return this.#keys.get(this.newest);
     }
 
-    /** The key of a stored ID, or undefined for none. Whoever can write to the store could write null there. */
+    /** The key of a stored ID; undefined for null, if that is accepted: writers to the store could choose null. */
     #keyOf(keyId) {
         if (keyId === null && this.#acceptsUnpeppered) {
             return undefined;

@@ -12,7 +12,7 @@ const working = new Places(processors);
 /** Idle workers. The one that worked last is taken first, so that others can end. */
 const idle = [];
 
-/** An idle worker, preferably with or without a memory as `hasMemory` says; otherwise a new one. */
+/** An idle worker, preferably one whose `hasMemory` is the same; a new worker if none is idle. */
 function takeWorker(hasMemory) {
     const index = idle.findLastIndex((worker) => worker.hasMemory === hasMemory);
     const [worker] = idle.splice(index, 1);
@@ -61,7 +61,7 @@ class Call {
         this.#leader.hasMemory = true;
         this.#helpers.forEach((helper) => helper.joined.add(this.#leader));
         this.#progress = progress;
-        this.#ended.catch(() => {}); // (Nobody may await it yet, and then a rejection would end the process.)
+        this.#ended.catch(() => {}); // (As long as nobody awaits it, a rejection would end the process.)
         for (const worker of taken) {
             worker.call = this;
         }
@@ -77,7 +77,7 @@ class Call {
         return this.#ended.finally(forget);
     }
 
-    /** The leader passes the memory to each helper by a channel: in this thread it would stay until it is collected. */
+    /** The leader passes the memory to each helper by a channel: this thread would keep it until it is collected. */
     #begin(task) {
         const channels = this.#helpers.map(() => new MessageChannel());
         const ports = channels.map(({ port1 }) => port1);

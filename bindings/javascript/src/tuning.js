@@ -4,7 +4,7 @@ import { hash } from './calls.js';
 import { DEFAULTS, defaultLimits } from './options.js';
 import { loadOfSystem } from './platform.js';
 
-/** The least memory and the least work among OWASP's choices. With less, a hash does not protect a password. */
+/** The least memory and the least work among OWASP's choices. With less, a hash does not protect a password well. */
 const LEAST_MEMORY = 7168;
 const LEAST_WORK = 5 * LEAST_MEMORY;
 const ROUNDS = 3;

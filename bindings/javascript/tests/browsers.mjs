@@ -74,7 +74,7 @@ class Browser {
     #ended;
     #beats;
 
-    /** Opens the page of a folder, isolated from other origins or not, by a policy for its content if there is one. */
+    /** Opens the page of a folder, isolated from other origins or not, with this content security policy, if any. */
     async open(folder, { isIsolated = true, policy } = {}) {
         const isolated = isIsolated ? ISOLATED : {};
         const headers = policy ? { ...isolated, 'Content-Security-Policy': policy } : isolated;

@@ -1,4 +1,4 @@
-// The package with bundlers, module systems and content security policies. docs/JAVASCRIPT.md has these lines.
+// The package with bundlers, module systems and content security policies, as docs/JAVASCRIPT.md describes.
 import assert from 'node:assert/strict';
 import { execFile } from 'node:child_process';
 import { mkdtempSync, readFileSync, writeFileSync } from 'node:fs';
@@ -65,7 +65,7 @@ const NODE_OPTIONS = `--require=${join(import.meta.dirname, 'debian.cjs')}`;
 const env = { ...process.env, NODE_PATH: '/usr/share/nodejs', NODE_OPTIONS };
 const run = (folder, command, ...words) => promisify(execFile)(command, words, { cwd: folder, timeout: 600000, env });
 
-/** The output of a folder's page, whose program is bundle.js. */
+/** Checks the output of a folder's page, whose program is bundle.js. */
 async function runsInPage(folder, policy, isIsolated) {
     writeFileSync(join(folder, 'index.html'), PAGE);
     const browser = await new Chromium().open(folder, { isIsolated, policy });
@@ -107,7 +107,7 @@ test('the files are as large as the page says', () => {
     }
 });
 
-test('jest tests with it, and ends', { skip: lacks('jest') }, async () => {
+test('jest runs a test that uses the package, and ends', { skip: lacks('jest') }, async () => {
     const folder = folderWith(`const { hash, verify } = require('proved-argon2');
 test('a hash', async () => {
     expect(await verify(await hash('password', { memoryCost: 256, parallelism: 2 }), 'password')).toBe(true);
@@ -118,7 +118,7 @@ test('a hash', async () => {
     assert.match(stderr, /^Tests: +1 passed, 1 total$/m);
 });
 
-test('a policy that allows no worker is named by the error', { skip: lacks('chromium') }, async () => {
+test('a call under a policy that allows no worker is WorkerRefused', { skip: lacks('chromium') }, async () => {
     const folder = folderWith(SERVED, 'bundle.js');
     const policy = `${FILES_POLICY}; worker-src 'none'`;
     const outcome = await runsInPage(folder, policy, false).catch((error) => error.actual);

@@ -14,7 +14,7 @@ const ENCODED = '$argon2id$v=19$m=256,t=2,p=1$c29tZXNhbHQ$nf65EOgLrQMR/uIPnA4rEs
 const stringOf = (memory, time, lanes) =>
     `$argon2id$v=19$m=${memory},t=${time},p=${lanes}$c29tZXNhbHQ$nf65EOgLrQMR/uIPnA4rEsF5h7TKyQwu9U1bMCHGi/4`;
 
-/** A string of so many characters, filled by its salt, with a pass above the default limit. */
+/** A string of so many characters. Its salt fills it up, and it has one pass more than the default limit. */
 const stringOfLength = (length) => {
     const [beginning, end] = [`$argon2id$v=19$m=8,t=${timeCost + 1},p=1$`, '$AAAAAAA'];
     return beginning + 'A'.repeat(length - beginning.length - end.length) + end;
@@ -169,7 +169,7 @@ test('the errors are those of the library for C, with their numbers', () => {
     }
 });
 
-test('a call whose signal was aborted before rejects with the reason, and starts no worker', async () => {
+test('a call whose signal is already aborted rejects with the reason, and starts no worker', async () => {
     const started = countWorkers();
     const reason = new Error('no more');
     await assert.rejects(argon2.hash('password', { signal: AbortSignal.abort(reason) }), (error) => error === reason);
@@ -217,7 +217,7 @@ const PERMISSION = ['--permission', '--experimental-permission'].find((flag) => 
 const PROCESSES = [
     ['an engine without WebAssembly is Unsupported', ['--jitless'], { PROVED_ARGON2_NATIVE: '0' },
         "hash('password')", 'Unsupported: This engine has no WebAssembly'],
-    ['a Node that gives no module without an import is Unsupported', ['--import', OLD], {},
+    ['a Node that cannot load its modules without an import is Unsupported', ['--import', OLD], {},
         "Promise.any([hash, verify, needsRehash].map((call) => call('', ''))).catch(({ errors }) => errors.join())",
         Array(3).fill(`Unsupported: Node ${versions.node} is too old: this needs Node 20.19, 22.12 or 24`).join()],
     ['an engine without the addon is Unsupported for a call with `native: true`', [], { PROVED_ARGON2_NATIVE: '0' },

@@ -98,7 +98,7 @@ for (const [what, [calls, stay, memories, makeCall]] of Object.entries(KINDS)) {
     });
 }
 
-test('the addon keeps a memory for each hash at the same time, and frees them after ten idle seconds', async () => {
+test('the addon keeps a memory for each simultaneous hash, and frees them after ten idle seconds', async () => {
     const large = { memoryCost: 65536, timeCost: 1, native: true };
     const bytes = large.memoryCost * 1024;
     const before = above();

@@ -163,7 +163,7 @@ test('salts are 16 random bytes, new for each hash', async () => {
     const salts = encoded.map((text) => Buffer.from(text.split('$')[4], 'base64'));
     assert.ok(salts.every((salt) => salt.length === 16));
     assert.equal(new Set(salts.map((salt) => salt.toString('hex'))).size, 200);
-    // each bit is set in some, and not in others, except once in 2^191 runs
+    // each bit is set in some salts, and not in others, except once in 2^192 runs
     for (let bit = 0; bit < 128; bit++) {
         const set = salts.filter((salt) => salt[bit >> 3] & (1 << (bit & 7))).length;
         assert.ok(set > 0 && set < 200, `bit ${bit} is set in ${set} of 200`);

@@ -58,7 +58,7 @@ const OUTCOMES = {
     'a call that is aborted while it computes': (line) => aborting((options) => hash('password', { ...options, line })),
     'a verification that is aborted while it computes': (line) => aborting((options) =>
         verify(old.replace('t=2', 't=4294967295'), 'password', { ...options, limits: null, line })),
-    'a call whose signal was aborted before': (line) => hash('password', { line, signal: AbortSignal.abort() }),
+    'a call whose signal is already aborted': (line) => hash('password', { line, signal: AbortSignal.abort() }),
     'a call whose callback throws': (line) => hash('password', { line, onProgress: () => assert.fail('AbortError') }),
     'a call with an error': (line) => hash('password', { line, timeCost: 0 }),
     'a string that is not an encoded hash': (line) => verify('x', 'password', { line }),
@@ -95,7 +95,7 @@ test('a call that is aborted while it waits leaves the line', limited, async () 
     await requireFree(line);
 });
 
-test('verifyAndUpdate takes one place for both of its calls, and copies its inputs at first', async () => {
+test('verifyAndUpdate takes one place for both of its calls, and copies its inputs at once', async () => {
     const line = new Line({ concurrency: 1, waiting: 1 });
     const first = line.run(() => sleep(20));
     const [password, secret, associatedData] = ['password', 'pepper', 'user 7'].map((text) => Buffer.from(text));

@@ -45,7 +45,7 @@ test('the addon also computes if the package is loaded by require', async () => 
     assert.deepEqual(tag, await argon2.hash('password', NATIVE));
 });
 
-/** The exit status of a process that runs some lines in the middle of a hash, and the time it takes. */
+/** The exit status of a process that runs some lines in the middle of a hash, and then has to end soon. */
 async function endOf(lines) {
     const program = `import { hash } from 'proved-argon2';
         const onProgress = (done) => done === 2 && end();
@@ -78,7 +78,7 @@ test('when a worker of the program ends in the middle of a hash, the addon still
     }
 });
 
-// ---- by workers, and by both
+// ---- by workers, by the addon, and in the caller's thread
 
 const SMALL = { memoryCost: 1024, timeCost: 3, parallelism: 4, salt: new Uint8Array(16), raw: true, native: false };
 const RUNNINGS = {

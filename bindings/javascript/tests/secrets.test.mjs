@@ -8,7 +8,7 @@ import { createInterface } from 'node:readline';
 import { test } from 'node:test';
 import * as argon2 from 'proved-argon2';
 
-/** The searching process contains no secret: it holds each byte changed by this. */
+/** The output of the searched process contains no secret: each byte is changed by this. */
 const MASK = 0x5a;
 const ROUNDS = 24;
 /** Bytes of a secret that are enough to know it by. */

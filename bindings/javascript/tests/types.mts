@@ -67,7 +67,7 @@ export async function wrong(password: string): Promise<void> {
     await verify('', password, { limits: { memory: 5 } });
     // @ts-expect-error: an object does not keep the order of its IDs
     new PepperedHasher({ 2026: new Uint8Array(1) });
-    // @ts-expect-error: only a hasher accepts hashes without a pepper, and not one call
+    // @ts-expect-error: a hasher has the option to accept hashes without a pepper, a call does not
     await new PepperedHasher([]).verifyAndUpdate(null, '', password, { acceptUnpeppered: true });
     // @ts-expect-error: a line is no number
     await hash(password, { line: 2 });

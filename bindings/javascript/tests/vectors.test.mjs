@@ -1,4 +1,4 @@
-// The outside vectors, and 800 random hashes beside libargon2's (both of bindings/vectors), as bytes and as strings.
+// The outside vectors, and 800 random hashes of libargon2 (both from bindings/vectors), as bytes and as strings.
 import assert from 'node:assert/strict';
 import { randomInt } from 'node:crypto';
 import os from 'node:os';

@@ -7,7 +7,7 @@ import threads, { BroadcastChannel, MessagePort, isMainThread, threadId } from '
 
 const STACK = 65536;
 const STAYS = 5000;
-/** Each instance of the package's with its memory, so that what the package drops can be looked at too. */
+/** Each instance that the package makes, with its memory: tests can look at what the package drops, too. */
 const instances = [];
 const keepsInstances = process.env.KEEPS_INSTANCES !== 'no';
 /** The workers that still exist. */

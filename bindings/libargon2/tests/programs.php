@@ -58,7 +58,7 @@ function errors(): void
     }
 }
 
-// Whether libsodium and the library each accept the other's hashes of a password, and none of another one.
+// Whether libsodium and the library each accept the other's hashes of a password, and reject another password.
 function sodium(): void
 {
     foreach (array_slice(PASSWORDS, 1) as $password) {

@@ -65,7 +65,7 @@ def answer(*words, libraries=BOTH):
 
 
 def file_of(program):
-    """What of a program is linked with the library."""
+    """The file of a program that is linked with the library."""
     if program == 'cryptsetup':
         return re.search(r'libcryptsetup\S* => (\S+)', run('debian', 'ldd', CRYPTSETUP)[0])[1]
     return SLAPD if program == 'slapd' else os.path.realpath(PHP) if program == 'php' \

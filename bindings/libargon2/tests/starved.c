@@ -1,4 +1,4 @@
-/* Calls of libargon2.so.1 in a process that is denied something, selected by a number from 0 on:
+/* Calls of libargon2.so.1 in a process that is denied something. NUMBER, from 0 on, says how much is left:
  *
  *     starved threads NUMBER     all threads except the first NUMBER of each call: the tag is the same
  *     starved memory NUMBER      address space: each call returns the memory error, and leaves its inputs unchanged
@@ -37,7 +37,7 @@ int pthread_create(pthread_t *thread, const pthread_attr_t *how, void *(*start)(
     }
     int state = PTHREAD_CREATE_JOINABLE;
     if (pthread_attr_getdetachstate(how, &state) == 0 && state == PTHREAD_CREATE_DETACHED) {
-        return next(thread, how, start, arg); /* (whether such a stack is large enough) */
+        return next(thread, how, start, arg); /* (it only shows whether such a stack is large enough) */
     }
     if (granted >= most) {
         denied++;

@@ -23,7 +23,7 @@ SETTINGS = ((19456, 2, 1), (65536, 3, 4), (65536, 4, 1))  # memory, passes, lane
 
 
 def seconds(folder, words):
-    """The processor time of a program over a library, of its own and of the system for it."""
+    """The processor time of a program over a library, including the time that the system spends for it."""
     before = resource.getrusage(resource.RUSAGE_CHILDREN)
     subprocess.run(words, env={**os.environ, 'LD_LIBRARY_PATH': folder}, check=True, stdout=subprocess.DEVNULL)
     after = resource.getrusage(resource.RUSAGE_CHILDREN)
@@ -31,7 +31,7 @@ def seconds(folder, words):
 
 
 def measure(what, folder, runs, words, without, count):
-    """Prints a row: the medians of a hash over both libraries, in milliseconds, and what they are to each other."""
+    """Prints a row: the medians of a hash over both libraries, in milliseconds, and their ratio."""
     taken = {'': [], folder: []}
     for _ in range(runs):
         for library, times in taken.items():

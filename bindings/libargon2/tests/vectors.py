@@ -1,5 +1,5 @@
-"""The vectors of libargon2's own tests, in words of ours, over the libargon2.so.1 of this process: encoded hashes of
-both versions, and strings that decode to no hash. They are what libargon2 returns (Debian's libargon2-dev
+"""The vectors of libargon2's own tests, in code of ours, over the libargon2.so.1 of this process: encoded hashes of
+both versions, and strings that do not verify. They are what libargon2 returns (Debian's libargon2-dev
 0~20171227-0.3+deb12u1).
 """
 import base64
@@ -71,7 +71,7 @@ def verify(text, password, kind):
 
 
 def is_right(password, text):
-    """Whether the password gives the text, which verifies it and no other. Before version 19 a text had no version."""
+    """Whether the password hashes to the text, which verifies no other one. Before version 19 a text had no version."""
     numbers = re.match(r'\$(\w+)\$v=(\d+)\$m=(\d+),t=(\d+),p=(\d+)\$(\w+)\$', text).groups()
     kind, (version, memory, passes, lanes) = TYPES.index(numbers[0]), map(int, numbers[1:5])
     salt, written = base64.b64decode(numbers[5] + '='), ctypes.create_string_buffer(108)

@@ -312,7 +312,7 @@ def test_denied_threads_leave_the_calls_to_the_other_threads():
 
 @pytest.mark.filterwarnings("ignore::pytest.PytestUnhandledThreadExceptionWarning")
 def test_a_thread_that_fails_is_replaced(monkeypatch):
-    """Such as one that cannot deliver a result since memory ran out."""
+    """A thread fails, for example, if memory runs out while it delivers a result."""
     delivers, go = _pool.Job.run, threading.Event()
 
     def fail_once(job):

@@ -86,7 +86,7 @@ def test_rolling_back_in_reverse_order_locks_nobody_out(fleet):
 @pytest.mark.parametrize("last, error", [((SMALL, NARROW, BOTH), TooCostlyError),
                                          ((SMALL, WIDE, OLD), VerificationError)], ids=["limits", "key"])
 def test_taking_back_limits_or_keys_that_hashes_still_need_locks_users_out(fleet, last, error):
-    """It locks out only users who have not logged in since."""
+    """It locks out only users who have not logged in since the roll-back began."""
     fleet.roll_out(STEPS[1:])
     fleet.log_in("seldom", 0)
     fleet.roll_out([(LARGE, WIDE, BOTH), (SMALL, WIDE, BOTH), last])

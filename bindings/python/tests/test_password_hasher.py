@@ -339,7 +339,7 @@ def test_verify_unknown_raises_other_errors_and_stops():
 
 @pytest.mark.parametrize("hash", [None, 5, bytearray(TEXT.encode()), ["x"]])
 def test_a_hash_that_is_neither_str_nor_bytes_is_rejected(hash):
-    """Such as that of a user who has no password."""
+    """For example `None`, which a user without a password may have."""
     hasher = PasswordHasher()
     for call in (hasher.verify, hasher.verify_and_update):
         with pytest.raises(TypeError, match="^'hash' must be str or bytes, not "):

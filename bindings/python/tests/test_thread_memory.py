@@ -250,7 +250,7 @@ def test_a_forked_child_frees_the_buffers_of_its_parent():
 
 @pytest.mark.filterwarnings("ignore:.*multi-threaded.*fork:DeprecationWarning")
 def test_a_call_that_is_forked_in_its_own_thread_goes_on_in_the_child():
-    """Such as by a function that `progress` calls: the child's call still uses the buffer."""
+    """A callback `progress` forks: the child's call still uses the buffer."""
     expected = settings_of(4096).hash("password", salt=SALT)
 
     def call(progress):

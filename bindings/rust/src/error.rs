@@ -79,7 +79,7 @@ errors! {
         /// The secret is longer than 2^32 - 1 bytes.
         SecretTooLong = 10, "Secret is too long";
 
-        /// There is no pass.
+        /// The number of passes is 0.
         TimeTooSmall = 11, "Time cost is too small";
 
         /// Never returned: no number of passes is too large.

@@ -188,7 +188,7 @@ impl<'a> Progress<'a> {
 
 /// `proved_argon2_progress` of the header.
 extern "C" fn report(arg: *mut c_void, done: u64, all: u64) -> c_int {
-    // SAFETY: `Options::by` passes this with its argument, which is borrowed for the call alone.
+    // SAFETY: `Options::by` passes this function together with `arg`, which is borrowed for the call alone.
     // The library calls it in the caller's thread, and never twice at once.
     let progress = unsafe { &mut *arg.cast::<Progress<'_>>() };
     match catch_unwind(AssertUnwindSafe(|| (progress.callback)(done, all))) {
@@ -204,8 +204,8 @@ extern "C" fn report(arg: *mut c_void, done: u64, all: u64) -> c_int {
 macro_rules! call {
     ($name:ident, $options:expr, [$($bytes:expr),*] $(, $rest:expr)*) => {{
         let options = $options;
-        // SAFETY: each pointer and length are those of a slice, what is written to is borrowed for this call alone, and
-        // what the options point to outlives it, as do the settings. Threads that it starts end before it returns.
+        // SAFETY: each pointer and length are those of a slice. What the call writes to is borrowed for it alone. The
+        // settings, and what the options point to, outlive the call. Threads that it starts end before it returns.
         unsafe { $name(&options, $($bytes.as_ptr().cast(), $bytes.len(),)* $($rest,)*) }
     }};
 }

@@ -47,8 +47,8 @@
 //!
 //! # Limits
 //!
-//! The memory of a hash is cleared; the caller has to clear passwords. An encoded hash names the memory
-//! and the passes that verifying it takes, up to 4 TiB. For a hash that others may have written, use
+//! The memory of a hash is cleared; the caller has to clear passwords. An encoded hash names the passes
+//! and the memory (up to 4 TiB) that verifying it takes. For a hash that others may have written, use
 //! [`verify_password`] or [`verify_encoded_within`].
 #![deny(unsafe_code)]
 #![warn(missing_docs, clippy::missing_errors_doc, clippy::must_use_candidate)]

@@ -28,7 +28,7 @@ const IDLE: Duration = Duration::from_secs(10);
 /// ```
 ///
 /// In async code, move the place into the closure that computes. If a client leaves, its request is dropped, but the
-/// hash goes on: a place in the closure is held until it is complete.
+/// hash goes on: the closure holds the place until the hash is complete.
 ///
 /// ```text
 /// let mut place = line.enter().await?;
@@ -44,7 +44,7 @@ const IDLE: Duration = Duration::from_secs(10);
 /// # Fork
 ///
 /// In a forked child all places of the line are free, no caller waits, and no buffer is kept, whatever the parent was
-/// doing. As with every lock, fork no process while another of its threads enters or leaves the line.
+/// doing. As with every lock, do not fork while another thread enters or leaves the line.
 #[derive(Clone, Debug)]
 pub struct Line(Arc<Shared>);
 
@@ -179,7 +179,7 @@ impl Shared {
         let mut state = self.state.lock().unwrap_or_else(|poisoned| poisoned.into_inner());
         if state.process != process::id() {
             let parents = mem::replace(&mut *state, State::new(self.concurrency));
-            // (a waker may lead to a runtime whose threads are the parent's)
+            // (dropping a waker may call a runtime whose threads exist only in the parent)
             mem::forget(parents.queue);
         }
         state

@@ -8,8 +8,8 @@ use std::{fmt, result};
 ///
 /// It grows to what a call needs, and never shrinks. Before it grows, its old memory is freed, so that a call never
 /// holds more memory than it would without the buffer. Settings that are rejected leave it unchanged. If an allocation
-/// fails, the buffer is empty, and the next call can use it. Each call clears the buffer before it returns, and
-/// [`drop`] clears and frees it.
+/// fails, the buffer is empty, and the next call can allocate it anew. Each call clears the buffer before it returns,
+/// and [`drop`] clears and frees it.
 ///
 /// # Examples
 ///
@@ -90,8 +90,8 @@ pub fn verify_encoded_in(memory: &mut Memory, encoded: &str, pwd: &[u8], secret:
     Run::new().over(memory).verify_encoded(encoded, pwd, secret, ad)
 }
 
-/// [`verify_encoded_within`](crate::verify_encoded_within) in a reusable buffer, which a hash above the limits leaves
-/// unchanged.
+/// [`verify_encoded_within`](crate::verify_encoded_within) in a reusable buffer. A hash above the limits does not
+/// change the buffer.
 pub fn verify_encoded_within_in(
     memory: &mut Memory,
     encoded: &str,

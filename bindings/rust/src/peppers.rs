@@ -7,10 +7,11 @@ type Key<'a> = (&'a str, &'a [u8]);
 /// Peppers: secret keys, each with an ID. The service stores the ID beside the encoded hash, which does not contain the
 /// key. Whoever steals the hashes without the keys cannot test passwords.
 ///
-/// To change the pepper, put a new key first and keep the old ones. [`Peppers::verify_and_update`] then renews a hash
-/// with an old key at the user's next login. Once no hash has the ID of an old key, leave that key out.
+/// To change the pepper, put a new key first and keep the old ones. [`Peppers::verify_and_update`] then renews each
+/// hash that was made with an old key, at its user's next login. Once no hash has the ID of an old key, leave that key
+/// out.
 ///
-/// A hash whose ID is `None`, so without a pepper, is rejected: otherwise whoever can write to the store could add a
+/// A hash with the ID `None`, which means no pepper, is rejected: otherwise whoever can write to the store could add a
 /// hash that needs no key. If your store has such hashes, [accept them](Peppers::accept_unpeppered) until all are
 /// renewed.
 ///
@@ -168,7 +169,7 @@ mod tests {
     }
 
     #[test]
-    fn a_key_that_is_gone_is_an_error_of_its_own() {
+    fn an_id_whose_key_was_removed_is_an_error_of_its_own() {
         let newest = Peppers::new(&KEYS[..1], small()).unwrap();
         let answer = newest.verify_and_update(&mut Run::new(), Some("2025"), &hash_with(b"old"), b"password");
         assert_eq!(answer, Err(UNKNOWN));
@@ -188,7 +189,7 @@ mod tests {
     }
 
     #[test]
-    fn no_key_an_empty_key_and_two_keys_with_one_id_are_rejected() {
+    fn an_empty_list_an_empty_key_and_a_repeated_id_are_rejected() {
         let lists: [&[(&str, &[u8])]; 4] =
             [&[], &[("a", b"")], &[("a", b"key"), ("b", b"")], &[("a", b"key"), ("b", b"two"), ("a", b"three")]];
         for keys in lists {

@@ -38,7 +38,7 @@ type Writing = fn(&[u8], &[u8], &Config<'_>, Extras<'_, '_>, &mut [u8]) -> u32;
 
 #[allow(clippy::missing_errors_doc)] // `Run` documents the errors of all its calls
 impl<'a> Run<'a> {
-    /// Calls that allocate their own memory, and report no progress.
+    /// A run whose calls allocate their own memory and report no progress.
     #[must_use]
     pub fn new() -> Run<'a> {
         Run::default()
@@ -115,7 +115,7 @@ impl<'a> Run<'a> {
         self.hash_encoded(pwd, &ffi::new_salt().ok_or(Error::NoRandomBytes)?, config)
     }
 
-    /// Computes what a call writes, which is this many bytes. The settings are checked before memory is allocated.
+    /// Makes a call that writes this many bytes, and returns them. The settings are checked before memory is allocated.
     fn hash(&mut self, pwd: &[u8], salt: &[u8], config: &Config<'_>, length: u64, call: Writing) -> Result<Vec<u8>> {
         require_done(ffi::check(pwd, salt, config))?;
         let (length, mut out) = (usize::try_from(length).map_err(|_| Error::OutOfMemory)?, Vec::new());

@@ -9,7 +9,8 @@ use password_hash::{
 /// The most bytes of a salt in a string of the crate `password-hash`.
 const MOST_OF_A_SALT: usize = 64;
 
-/// The memory in KiB, the passes, the lanes and the length of the hash. The default means the hasher's own.
+/// The memory in KiB, the passes, the lanes and the length of the hash. `Params::default()` stands for those of the
+/// hasher.
 #[derive(Clone, Copy, Debug, Default, Eq, PartialEq)]
 pub struct Params(Option<Config<'static>>);
 
@@ -177,7 +178,7 @@ impl<'key> Argon2<'key> {
     }
 }
 
-/// All settings of this crate, threads among them.
+/// A hasher with all settings of this crate, including the threads.
 impl<'key> From<Config<'key>> for Argon2<'key> {
     fn from(config: Config<'key>) -> Argon2<'key> {
         Argon2 { config, params: Params::of(&config) }

@@ -24,7 +24,8 @@ pub struct Tuning<'a> {
 /// Finds strong settings whose hash takes at most this long on this machine: the memory of `config`, halved
 /// until it fits, and then as many passes as possible, within the default limits. Everything else is as in `config`.
 ///
-/// It returns `None` if even the least settings for passwords (7 MiB and 5 passes, or as much work) take longer.
+/// It returns `None` if even the least settings for passwords (7 MiB and 5 passes, or as much work) take longer, or
+/// `config` has less memory.
 ///
 /// # Errors
 ///

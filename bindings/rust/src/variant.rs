@@ -7,14 +7,15 @@ const VERSIONS: [Version; 2] = [Version::Version10, Version::Version13];
 /// The variants of Argon2 (RFC 9106, 1). They differ in how a block chooses the earlier block that it refers to.
 #[derive(Clone, Copy, Debug, Default, Eq, PartialEq, PartialOrd, Ord)]
 pub enum Variant {
-    /// By the contents of blocks, and so by the password.
+    /// Memory accesses depend on the contents of blocks, and so on the password.
     Argon2d = 0,
 
-    /// Only by the block's position: which memory is read says nothing about the password.
+    /// Memory accesses depend only on the block's position, and say nothing about the password.
     #[default]
     Argon2i = 1,
 
-    /// By the position in the first half of the first pass, and then by the contents. Choose this variant.
+    /// Memory accesses depend on the position in the first half of the first pass, and then on the contents. Choose
+    /// this variant.
     Argon2id = 2,
 }
 

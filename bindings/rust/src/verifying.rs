@@ -4,13 +4,12 @@ use crate::{Config, Error, Limits, Result, Run, Unverified, Variant, Version};
 use std::result;
 
 /// Verifies a password against an encoded hash, without a secret or associated data, and without
-/// limits.
+/// limits. There are as many threads as the hash has lanes, and at most 16.
 ///
 /// # Errors
 ///
 /// [`Error::DecodingFail`] for a string that is not an encoded hash; otherwise the first parameter
-/// error of its settings, or [`Error::OutOfMemory`]. There are as many threads as the hash has
-/// lanes, and at most 16.
+/// error of its settings, or [`Error::OutOfMemory`].
 ///
 /// # Examples
 ///
@@ -108,8 +107,8 @@ pub fn verify_raw(pwd: &[u8], salt: &[u8], hash: &[u8], config: &Config<'_>) -> 
     Run::new().verify_raw(pwd, salt, hash, config)
 }
 
-/// Whether an encoded hash was made with another variant, version, memory, passes, lanes or length
-/// of the hash.
+/// Whether an encoded hash was made with another variant, version, memory, passes, lanes or hash
+/// length than those of `config`.
 ///
 /// Call it after the password has matched, and hash the password again if it returns true.
 ///

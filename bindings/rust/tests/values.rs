@@ -126,7 +126,7 @@ fn the_question_mark_converts_both_types_of_errors() {
     assert!(Unverified::TooCostly.source().is_none());
 }
 
-/// Settings above one or more of the default limits: a hash with these settings is within the raised limits.
+/// Settings within the default limits and settings above them: a hash is within the limits raised to its settings.
 #[test]
 fn at_least_raises_the_default_limits_to_the_settings() {
     let small = Config { mem_cost: 1360, time_cost: 1, ..Config::default() };

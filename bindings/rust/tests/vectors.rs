@@ -1,5 +1,5 @@
 //! The vectors of other implementations in bindings/vectors, and random hashes of libargon2. The script drawn.py there
-//! writes these to the file $RANDOM_HASHES.
+//! prints these; $RANDOM_HASHES names the file that contains them.
 
 use proved_argon2::{
     needs_rehash, read, verify_encoded, verify_encoded_in, Config, Error, Limits, Memory, Run, ThreadMode, Variant,
@@ -27,8 +27,8 @@ fn answer_of(error: &Error) -> String {
     format!("ERR {error}")
 }
 
-/// Makes the calls of a run with the inputs of a line. The tag and the encoded hash have to verify with this secret
-/// only, or the calls that hash have to return the error of the line.
+/// Makes the calls of a run with the inputs of a line. If the line has a tag, the tag and the encoded hash have to
+/// verify with this secret only. Otherwise the calls that hash have to return the error of the line.
 fn check(run: &mut Run<'_>, line: &str) {
     let fields: Vec<&str> = line.splitn(11, ' ').collect();
     let number = |index: usize| fields[index].parse().unwrap();

@@ -182,8 +182,8 @@ def _buffer(length: int) -> "ctypes.Array[ctypes.c_char]":
 
 
 class ProgressCallback:
-    """The progress callback of a call. It calls `progress` and lets the handlers of signals run. Their exceptions
-    stop the call, and leave the `with` block.
+    """The progress callback of a call. It calls `progress` and lets the handlers of signals run. An exception
+    of either stops the call, and is raised at the end of the `with` block.
 
     The callback resumes a generator, because Python runs handlers when it resumes one, and then the generator's `try`
     catches what they raise. In a function, handlers would run before the first line, and their exceptions be lost.

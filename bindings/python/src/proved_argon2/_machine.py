@@ -9,8 +9,8 @@ if TYPE_CHECKING:
 OWN_CGROUPS = "/proc/self/cgroup"
 ALL_CGROUPS = "/sys/fs/cgroup"
 
-# The two hierarchies of cgroups that limit memory: version 2, which has no controller's name, and version 1. Each has
-# its folder in ALL_CGROUPS, and the files that limit a cgroup's memory: in bytes, or by the word `max` for no limit.
+# The hierarchies of cgroups that limit memory, by the controller's name: version 2 has none, and version 1 `memory`.
+# Each has its folder in ALL_CGROUPS, and files with a cgroup's limit: a number of bytes, or `max` for no limit.
 _HIERARCHIES = {"": ("", ("memory.max", "memory.high")), "memory": ("memory", ("memory.limit_in_bytes",))}
 
 

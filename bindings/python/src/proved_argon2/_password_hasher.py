@@ -258,7 +258,7 @@ class PasswordHasher:
     ) -> "Literal[False]":
         """Take as long as verifying a hash with these settings, and return `False`: for a user who does not exist.
 
-        Otherwise the time of a login would tell which users exist.
+        Without this call, the time of a login would tell which users exist.
 
         Raises what `verify` raises, except for a wrong password.
         """

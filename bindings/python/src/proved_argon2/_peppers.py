@@ -12,7 +12,7 @@ if TYPE_CHECKING:
 
 
 class PepperedHasher:
-    """Hashes with the newest of several peppers, and verifies with the pepper that a stored hash names by its ID.
+    """Hashes with the newest of several peppers, and verifies with the pepper whose ID is stored beside the hash.
 
     `peppers` maps IDs to keys, which are bytes, the newest first. The other arguments are those of `PasswordHasher`.
 

@@ -43,7 +43,7 @@ def tune(milliseconds: float, memory_cost: int = DEFAULT_MEMORY_COST, parallelis
     default limits. It computes several hashes.
 
     Raises `ValueError` if even the weakest settings that protect passwords (7 MiB and 5 passes, or the same work) take
-    longer, and `HashingError` if the settings are rejected or memory cannot be allocated.
+    longer or `memory_cost` is lower, and `HashingError` if the settings are rejected or memory cannot be allocated.
     """
     return _search(milliseconds, memory_cost, parallelism, progress=lambda done, hashes: None)
 

@@ -31,7 +31,7 @@ class HashingError(Argon2Error):
 class BusyError(Argon2Error):
     """The `AsyncPasswordHasher` cannot take another call now; try again later.
 
-    All places to compute and wait are taken, or the system denied the first thread.
+    All places to compute and wait are taken, the system denied the first thread, or Python is ending.
     """
 
 

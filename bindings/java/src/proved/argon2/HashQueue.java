@@ -88,7 +88,7 @@ public final class HashQueue implements AutoCloseable {
         }
         CompletableFuture<T> future = submit(call);
         if (Thread.currentThread() instanceof Worker worker && worker.current != null) {
-            worker.current.whenComplete((value, error) -> future.cancel(true)); // from a thread of another queue
+            worker.current.whenComplete((value, error) -> future.cancel(true)); // the caller is in another queue
         }
         try {
             return future.get();
@@ -115,7 +115,7 @@ public final class HashQueue implements AutoCloseable {
         tasks.forEach(task -> task.cancel(true));
     }
 
-    /** Accepts one call at a time: the pool also counts a thread of another caller that the system then denies. */
+    /** Accepts one call at a time: the pool's size may count another caller's thread that the system then denies. */
     private boolean isAccepted(Task<?> task) {
         synchronized (tasks) {
             return hasPlace(task) && isQueued(task);
@@ -147,7 +147,7 @@ public final class HashQueue implements AutoCloseable {
         } finally {
             if (!isQueued) {
                 tasks.remove(task);
-                task.cancel(false); // the pool may have queued it before it was denied the thread
+                task.cancel(false); // the pool may have queued the task before the system denied the thread
             }
         }
         return isQueued;

@@ -24,7 +24,7 @@ public record Limits(int memory, int passes, int lanes, long work) {
             Math.max(DEFAULT.work, (long) settings.memory() * settings.passes()));
     }
 
-    /** The numbers of the library have no sign: the highest {@code int} or {@code long} is no limit. */
+    /** The library's numbers are unsigned: the highest {@code int} or {@code long} becomes their highest, no limit. */
     long[] numbers() {
         long[] numbers = {memory, passes, lanes, work};
         for (int i = 0; i < numbers.length; i++) {

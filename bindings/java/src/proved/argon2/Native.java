@@ -32,7 +32,7 @@ final class Native {
 
     private Native() {}
 
-    /** Whether a hash can have these {@link Settings#numbers}. */
+    /** The error of a hash with these {@link Settings#numbers}, or 0. */
     static native int check(int[] settings);
 
     /** The length of the encoded hash. */

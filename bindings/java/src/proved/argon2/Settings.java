@@ -2,7 +2,7 @@ package proved.argon2;
 
 /**
  * The settings of a hash. Settings that no hash can have are rejected with an {@link Argon2Exception}. The recommended
- * settings have one lane; RFC 9106 recommends four lanes for its two: see {@link #withLanes}.
+ * settings below have one lane. RFC 9106 recommends four lanes for its two settings: see {@link #withLanes}.
  *
  * @param variant the variant
  * @param version the version

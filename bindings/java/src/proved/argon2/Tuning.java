@@ -13,7 +13,7 @@ import java.util.function.ToDoubleFunction;
  *
  * @param settings the settings
  * @param milliseconds the time of a hash, the least of several
- * @param load how many programs ran at once in the last minute, if Linux reports it. Other programs slow hashes down
+ * @param load the load average of the last minute, if Linux reports it. Other programs slow hashes down
  */
 public record Tuning(Settings settings, double milliseconds, OptionalDouble load) {
     /** The least memory in KiB, and the least work, of OWASP's recommendations. */

@@ -71,7 +71,7 @@ class DeniedTest {
         Files.delete(denied);
     }
 
-    /** None may count on the thread of another caller, which is denied as well. */
+    /** No call may be accepted because of another caller's thread, which is denied as well. */
     @Test
     void withoutThreadsNoCallOfSeveralCallersIsAccepted() throws IOException, InterruptedException, ExecutionException {
         int count = 6;

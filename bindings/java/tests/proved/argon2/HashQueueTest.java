@@ -121,7 +121,7 @@ class HashQueueTest {
         assertThrows(IllegalArgumentException.class, () -> new HashQueue(1, -1));
     }
 
-    /** Also in its callbacks: the user's callbacks precede the queue's. */
+    /** Its place is also free in its own callbacks, which run before the queue's. */
     @Test
     void aCancelledCallThatWaitsGivesBackItsPlace() throws InterruptedException {
         CompletableFuture<String> first = computing();
@@ -163,7 +163,7 @@ class HashQueueTest {
             };
         });
         isWatched.complete(null);
-        assertEquals(!isError, soon(earlier)); // it is called after the later one
+        assertEquals(!isError, soon(earlier)); // the earlier callback runs last
         assertEquals("second", soon(queue.submit(() -> "second")));
         assertHasBothPlaces();
     }
@@ -256,7 +256,7 @@ class HashQueueTest {
         assertHasBothPlaces();
     }
 
-    /** Also if the call waits, and if it is made directly, which pins the carrier of a virtual thread. */
+    /** A call stops if it computes, waits, or is made directly, which pins the carrier of a virtual thread. */
     @Test
     void anInterruptedCallerStopsItsCall() throws InterruptedException, ReflectiveOperationException {
         CompletableFuture<String> first = computing();
