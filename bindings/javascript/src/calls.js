@@ -109,7 +109,7 @@ export async function verifyUnknown(password, options = {}) {
     const own = optionsOf(options);
     const settings = settingsOf(own);
     const ways = verifyingWaysOf(own);
-    const inputs = inputsOf(password, { ...own, salt: allocate(0) });
+    const inputs = inputsOf(password, { __proto__: null, ...own, salt: allocate(0) });
     await verifyBytes(ways, inputs, (encoder) => encoder.encodeUnknown(settings, inputs));
     return false;
 }
@@ -131,7 +131,8 @@ function verifyBytes(ways, inputs, bytesBy) {
 export async function needsRehash(encoded, options = {}) {
     const { bytes } = encodedOf(encoded);
     const settings = settingsOf(optionsOf(options));
-    return callWith({ addon: addonFor() }, undefined, (encoder) => encoder.needsRehash(bytes, settings));
+    const ways = { __proto__: null, addon: addonFor() };
+    return callWith(ways, undefined, (encoder) => encoder.needsRehash(bytes, settings));
 }
 
 /**
@@ -144,12 +145,12 @@ export async function verifyAndUpdate(encoded, password, options = {}) {
 
 /** Does the same. If a new secret is passed, a match is always hashed anew, with that secret. */
 export async function verifyAndRenew(encoded, password, options, newSecret) {
-    const { line, ...all } = optionsOf(options);
+    const all = optionsOf(options);
     const copyOfOption = (name) => all[name] && bytesOf(name, all[name]);
-    const keys = { secret: copyOfOption('secret'), associatedData: copyOfOption('associatedData') };
+    const keys = { salt: undefined, secret: copyOfOption('secret'), associatedData: copyOfOption('associatedData') };
     const inputs = new Inputs({ ...keys, password: passwordOf(password) });
-    const own = { ...all, ...keys, salt: undefined, raw: undefined };
-    return callInLine(line, all, inputs, async () => {
+    const own = { ...all, ...keys, line: undefined, raw: undefined };
+    return callInLine(all.line, all, inputs, async () => {
         const matches = await verify(encoded, inputs.password, own);
         return { matches, update: matches ? await renewed(encoded, inputs.password, own, newSecret) : null };
     });

@@ -125,7 +125,7 @@ export class Line {
     #places = new Places(() => this.concurrency);
 
     constructor(options = {}) {
-        const own = { ...DEFAULTS, ...ownOf(options, NAMES_OF_LINE, 'options') };
+        const own = { __proto__: null, ...DEFAULTS, ...ownOf(options, NAMES_OF_LINE, 'options') };
         Object.entries(own).forEach(([name, value]) => numberOf(name, value));
         this.concurrency = own.concurrency ?? fittingIn(own);
         this.waiting = own.waiting ?? WAITING_FOR_EACH * this.concurrency;
@@ -136,7 +136,8 @@ export class Line {
     }
 
     /** Makes a call when a place is free, and returns its result. The place is free again when the call has ended. */
-    async run(call, { signal } = {}) {
+    async run(call, options = {}) {
+        const { signal } = { __proto__: null, ...options };
         const progress = new Progress(undefined, signalOf(signal));
         progress.throwIfStopped();
         if (this.#places.take(1) === 0) {

@@ -11,7 +11,8 @@ export class PepperedHasher {
     #options;
 
     /** The peppers are pairs of an ID and a key, the newest first: an object would sort IDs that are numbers. */
-    constructor(peppers, { acceptUnpeppered = false, ...options } = {}) {
+    constructor(peppers, options = {}) {
+        const { acceptUnpeppered = false, ...ofCalls } = { __proto__: null, ...options };
         for (const [keyId, value] of peppers) {
             const key = bytesOf('key', value);
             if (typeof keyId !== 'string' || key.length === 0 || this.#keys.has(keyId)) {
@@ -23,7 +24,7 @@ export class PepperedHasher {
             throw new RangeError('there has to be a pepper');
         }
         this.#acceptsUnpeppered = optionOf('acceptUnpeppered', acceptUnpeppered, 'boolean');
-        this.#options = options;
+        this.#options = ofCalls;
         [this.newest] = this.#keys.keys();
         Object.freeze(this);
     }

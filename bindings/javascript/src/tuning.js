@@ -10,7 +10,8 @@ const LEAST_WORK = 5 * LEAST_MEMORY;
 const ROUNDS = 3;
 
 /** Strong settings whose hash takes at most this many milliseconds here. */
-export async function tune(milliseconds, { memoryCost = 65536, parallelism = 1, ...running } = {}) {
+export async function tune(milliseconds, options = {}) {
+    const { memoryCost = 65536, parallelism = 1, ...running } = { __proto__: null, ...options };
     const settingsOf = (memory, timeCost) => ({ ...DEFAULTS, memoryCost: memory, timeCost, parallelism });
     const measure = (memory, passes) => leastOf({ ...running, ...settingsOf(memory, passes), salt: allocate(8) });
     const { memory, passes, took } = await fittingCosts(milliseconds, memoryCost, measure);

@@ -74,32 +74,52 @@ test('properties that a view overrides are not read', async () => {
     assert.equal(await argon2.verify(ENCODED, view), true);
 });
 
-test('a property of Object.prototype is not an option', async () => {
+/** The outcomes of the calls that a function makes while Object.prototype has properties named as options. */
+async function outcomesWithInherited(call) {
     // (no `signal`: it would end Node's own streams)
     const added = {
         memoryCost: 8, timeCost: 1, parallelism: 8, type: 0, version: 16, hashLength: 4, salt: SALT, limits: null,
-        raw: true, secret: SALT, associatedData: SALT, worker: 1, threads: 0, onProgress: 1, work: 1,
+        raw: true, secret: SALT, associatedData: 1, worker: 1, threads: 0, onProgress: 1, work: 1, line: 1,
+        acceptUnpeppered: true, concurrency: 0, waiting: 0,
         encoded: ENCODED, code: 0, helpers: 1, failure: 'x', invitations: 1,
     };
-    const costly = ENCODED.replace('t=2', 't=1000');
     for (const [name, value] of Object.entries(added)) {
         Object.defineProperty(Object.prototype, name, { value, configurable: true, writable: true });
     }
-    let outcomes;
     try {
-        outcomes = await Promise.allSettled([
-            argon2.hash('password'), argon2.hash('password', {}), argon2.verify(ENCODED, 'password'),
-            argon2.verify(costly, 'password', { limits: {} }), argon2.needsRehash(ENCODED, { memoryCost: 256 }),
-        ]);
+        return await Promise.allSettled(call());
     } finally {
         Object.keys(added).forEach((name) => delete Object.prototype[name]);
     }
-    const [plain, empty, verdict, refused, rehash] = outcomes;
+}
+
+test('a property of Object.prototype is not an option', async () => {
+    const costly = ENCODED.replace('t=2', 't=1000');
+    const [plain, empty, verdict, refused, rehash] = await outcomesWithInherited(() => [
+        argon2.hash('password'), argon2.hash('password', {}), argon2.verify(ENCODED, 'password'),
+        argon2.verify(costly, 'password', { limits: {} }), argon2.needsRehash(ENCODED, { memoryCost: 256 }),
+    ]);
     assert.match(plain.value, /^\$argon2id\$v=19\$m=19456,t=2,p=1\$[^$]{22}\$[^$]{43}$/);
     assert.match(empty.value, /^\$argon2id\$v=19\$m=19456,t=2,p=1\$[^$]{22}\$[^$]{43}$/);
     assert.notEqual(plain.value.split('$')[4], empty.value.split('$')[4]);
     assert.deepEqual([verdict.value, rehash.value], [true, false]);
     assert.equal(refused.reason?.name, 'TooCostly');
+});
+
+test('a property of Object.prototype is not an option of logins, peppers, lines and tune', async () => {
+    const fitting = new argon2.Line();
+    const [login, unknown, unpeppered, line, tuned] = await outcomesWithInherited(() => [
+        argon2.verifyAndUpdate(ENCODED, 'password', { memoryCost: 256 }), argon2.verifyUnknown('password'),
+        new argon2.PepperedHasher([['2026', SALT]]).verifyAndUpdate(null, ENCODED, 'password'),
+        new argon2.Line(), argon2.tune(0),
+    ]);
+    assert.deepEqual(login.value, { matches: true, update: null });
+    assert.equal(unknown.value, false);
+    assert.equal(unpeppered.reason?.name, 'UnknownPepper');
+    assert.deepEqual({ ...line.value }, { ...fitting });
+    assert.match(tuned.reason?.message, /within 65536 KiB/);
+    const aborted = Object.create({ signal: AbortSignal.abort() });
+    assert.equal(await fitting.run(() => 1, aborted), 1);
 });
 
 test('an option is read once', async () => {
