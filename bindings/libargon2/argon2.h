@@ -80,7 +80,7 @@ typedef enum Argon2_ErrorCodes {
     ARGON2_MEMORY_ALLOCATION_ERROR = -22,
     ARGON2_FREE_MEMORY_CBK_NULL = -23,
     ARGON2_ALLOCATE_MEMORY_CBK_NULL = -24,
-    ARGON2_INCORRECT_PARAMETER = -25, /* no context, or no such version */
+    ARGON2_INCORRECT_PARAMETER = -25, /* no context, hash or such version */
     ARGON2_INCORRECT_TYPE = -26,
     ARGON2_OUT_PTR_MISMATCH = -27, /* never returned */
     ARGON2_THREADS_TOO_FEW = -28,
@@ -114,7 +114,7 @@ typedef struct Argon2_Context {
     uint32_t threads;           /* at most so many at once */
     uint32_t version;           /* an argon2_version */
     allocate_fptr allocate_cbk; /* where the memory comes from, or null */
-    deallocate_fptr free_cbk;   /* frees the memory, which is all zeros; or null */
+    deallocate_fptr free_cbk;   /* frees the memory, which holds no blocks; or null */
     uint32_t flags;
 } argon2_context;
 

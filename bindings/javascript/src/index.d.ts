@@ -1,4 +1,4 @@
-/** Argon2 password hashing (RFC 9106) by proved code: an addon in Node, and a WebAssembly module elsewhere. */
+/** Argon2 password hashing (RFC 9106) by proved code: an addon in Node on Linux, and WebAssembly elsewhere. */
 
 /** Argon2d: each block's reference depends on the contents of blocks, so on the password (RFC 9106, section 1). */
 export const argon2d: 0;

@@ -3,7 +3,7 @@
 As in argon2-cffi, `secret` is the password here. `key` is what RFC 9106 calls the secret value (a pepper), and
 `associated_data` is other data that the hash depends on.
 
-A hash is computed by one thread for each lane, the caller's among them, and verified by at most 16 threads. If `memory`
+A hash uses at most one thread for each lane, the caller's among them, and at most 16 to verify. If `memory`
 is a `Memory`, the call reuses a buffer of it.
 
 `progress` is called as `progress(done, all)` after each slice of the computation; there are four slices in a pass. If
