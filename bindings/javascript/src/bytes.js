@@ -46,11 +46,9 @@ const BYTES = 'bytes: a typed array, a DataView or an ArrayBuffer, neither detac
 export function bytesOf(name, value, expected = BYTES) {
     try {
         return copyOf(viewOf(value));
-    } catch (cause) {
-        if (cause instanceof TypeError) {
-            throw new TypeError(`'${name}' has to be ${expected}`, { cause });
-        }
-        throw cause;
+    } catch (error) {
+        // (without its `cause`, whose message contains the value: it may be a password or a key of a wrong type)
+        throw error instanceof TypeError ? new TypeError(`'${name}' has to be ${expected}`) : error;
     }
 }
 

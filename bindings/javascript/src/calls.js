@@ -1,12 +1,12 @@
 // The calls that hash and verify.
-import { allocate, bytesOf, copyOf, Inputs, passwordOf } from './bytes.js';
+import { allocate, copyOf } from './bytes.js';
 import { MISMATCH, OK, Rejected, check, errorOf } from './codes.js';
 import { Encoder } from './encoder.js';
 import { Argon2Error } from './errors.js';
 import { Line, Progress } from './line.js';
 import { openCalls, runInPlace } from './module.js';
 import { addonFor, runByThreads } from './native.js';
-import { encodedOf, inputsOf, isRaw, limitsOf, optionsOf, runningOf, settingsOf } from './options.js';
+import { encodedOf, inputsOf, isRaw, limitsOf, optionOf, optionsOf, runningOf, settingsOf } from './options.js';
 import { canStartWorkers } from './platform.js';
 import { runByWorkers } from './pool.js';
 import { lanesOf } from './run.js';
@@ -22,22 +22,33 @@ function waysOf(own) {
     return { ...running, addon: addonFor(native), progress: new Progress(onProgress, signal) };
 }
 
-/** Computes a task whose settings were checked: by the addon, by workers, or in this thread. Returns code and tag. */
-async function compute(task, { addon, worker, threads, progress }) {
-    progress.throwIfStopped();
+/** Computes a task by the addon, by workers, or in this thread. */
+function runBy(task, { addon, worker, threads, progress }) {
     const most = Math.min(threads, lanesOf(task.settings));
+    if (worker && addon) {
+        return runByThreads(addon, task, most, progress);
+    }
+    return worker && canStartWorkers() ? runByWorkers(task, most, progress) : runInPlace(task, progress);
+}
+
+/** Computes a task whose settings were checked. Returns code and tag, or throws if it was stopped meanwhile. */
+async function compute(task, ways) {
+    const { progress } = ways;
+    progress.throwIfStopped();
+    let outcome;
     try {
-        if (worker && addon) {
-            return await runByThreads(addon, task, most, progress);
-        }
-        return await (worker && canStartWorkers() ? runByWorkers(task, most, progress) : runInPlace(task, progress));
+        outcome = await runBy(task, ways);
     } finally {
+        if (progress.isStopped) {
+            outcome?.tag?.fill(0);
+        }
         progress.throwIfStopped();
     }
+    return outcome;
 }
 
 /** Makes a call, in the caller's line if there is one, and returns its result. Then the inputs are overwritten. */
-async function callInLine(line, running, inputs, call) {
+export async function callInLine(line, running, inputs, call) {
     try {
         if (line !== undefined && !(line instanceof Line)) {
             throw new TypeError("'line' has to be a Line");
@@ -51,9 +62,8 @@ async function callInLine(line, running, inputs, call) {
 /** Does the same with an encoder. The number of an error becomes an error of its class. */
 function callWith({ line, addon, progress }, inputs, work) {
     return callInLine(line, progress, inputs, async () => {
-        const encoder = new Encoder(addon ?? await openCalls());
         try {
-            return await work(encoder);
+            return await work(new Encoder(addon ?? await openCalls()));
         } catch (error) {
             throw error instanceof Rejected ? errorOf(error) : error;
         }
@@ -130,8 +140,9 @@ function verifyBytes(ways, inputs, bytesBy) {
 /** Whether a PHC string has other settings than these. */
 export async function needsRehash(encoded, options = {}) {
     const { bytes } = encodedOf(encoded);
-    const settings = settingsOf(optionsOf(options));
-    const ways = { __proto__: null, addon: addonFor() };
+    const own = optionsOf(options);
+    const settings = settingsOf(own);
+    const ways = { __proto__: null, addon: addonFor(optionOf('native', own.native, 'boolean')) };
     return callWith(ways, undefined, (encoder) => encoder.needsRehash(bytes, settings));
 }
 
@@ -146,23 +157,31 @@ export async function verifyAndUpdate(encoded, password, options = {}) {
 /** Does the same. If a new secret is passed, a match is always hashed anew, with that secret. */
 export async function verifyAndRenew(encoded, password, options, newSecret) {
     const all = optionsOf(options);
-    const copyOfOption = (name) => all[name] && bytesOf(name, all[name]);
-    const keys = { salt: undefined, secret: copyOfOption('secret'), associatedData: copyOfOption('associatedData') };
-    const inputs = new Inputs({ ...keys, password: passwordOf(password) });
-    const own = { ...all, ...keys, line: undefined, raw: undefined };
+    settingsOf(all); // rejects invalid settings whatever the password is
+    const limits = all.limits && limitsOf(all);
+    const inputs = inputsOf(password, { __proto__: null, ...all, salt: allocate(0) });
+    const associatedData = all.associatedData && inputs.associatedData;
+    const copied = { limits, secret: inputs.secret, associatedData };
+    const own = { __proto__: null, ...all, ...copied, line: undefined, salt: undefined, raw: undefined };
     return callInLine(all.line, all, inputs, async () => {
         const matches = await verify(encoded, inputs.password, own);
         return { matches, update: matches ? await renewed(encoded, inputs.password, own, newSecret) : null };
     });
 }
 
-/** The PHC string to store in place of the old one, or null if the old one stays. */
+/** The PHC string to store in place of the old one, or null if the old one stays, also because memory is denied. */
 async function renewed(encoded, password, options, newSecret) {
+    const progress = new Progress(options.onProgress, options.signal);
+    const onProgress = options.onProgress && ((done, all) => {
+        progress.report(done, all);
+        progress.throwIfStopped();
+    });
     try {
         const isDue = newSecret !== undefined || await needsRehash(encoded, options);
-        return isDue ? await hash(password, { ...options, secret: newSecret ?? options.secret }) : null;
+        return isDue ? await hash(password, { ...options, onProgress, secret: newSecret ?? options.secret }) : null;
     } catch (error) {
-        if (error instanceof Argon2Error) {
+        progress.throwIfStopped(); // whatever class the callback's error or the signal's reason has
+        if (error instanceof Argon2Error || error instanceof RangeError) {
             return null;
         }
         throw error;

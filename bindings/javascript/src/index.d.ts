@@ -147,7 +147,8 @@ export interface Updated {
 /**
  * Verifies a password against a PHC string as `verify` does. If it matches, and the string has other settings than the
  * options, it also hashes the password anew. If only the new hash fails, the old string stays. If the signal is
- * aborted, the call rejects, even after the password has matched.
+ * aborted or `onProgress` throws, the call rejects, even after the password has matched. Settings of a wrong type are
+ * rejected whether it matches or not.
  */
 export function verifyAndUpdate(encoded: string, password: string | Bytes, options?: UpdateOptions): Promise<Updated>;
 

@@ -46,8 +46,9 @@ export class Progress {
 
     /** Calls `stop` when the signal is aborted. Returns a function that removes this listener. */
     whenAborted(stop) {
-        this.signal?.addEventListener('abort', stop, { once: true });
-        return () => this.signal?.removeEventListener('abort', stop);
+        const stopIfAborted = () => this.isStopped && stop(); // (anybody can dispatch such an event)
+        this.signal?.addEventListener('abort', stopIfAborted);
+        return () => this.signal?.removeEventListener('abort', stopIfAborted);
     }
 
     /** Throws what the callback threw, or the signal's reason. */

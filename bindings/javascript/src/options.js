@@ -139,14 +139,19 @@ function randomSalt() {
     }
 }
 
-/** The inputs of a hash or of a verification. */
+/** The inputs of a hash or of a verification. If one is rejected, the copies of the others are overwritten. */
 export function inputsOf(password, { salt, secret, associatedData }) {
-    return new Inputs({
-        salt: salt === undefined ? randomSalt() : bytesOf('salt', salt),
-        secret: bytesOrNone('secret', secret),
-        associatedData: bytesOrNone('associatedData', associatedData),
-        password: passwordOf(password),
-    });
+    const inputs = new Inputs({});
+    try {
+        inputs.salt = salt === undefined ? randomSalt() : bytesOf('salt', salt);
+        inputs.secret = bytesOrNone('secret', secret);
+        inputs.associatedData = bytesOrNone('associatedData', associatedData);
+        inputs.password = passwordOf(password);
+        return inputs;
+    } catch (error) {
+        inputs.clear();
+        throw error;
+    }
 }
 
 function threadsOf(threads = MAX_NUMBER) {

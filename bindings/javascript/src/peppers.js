@@ -2,7 +2,7 @@
 import { bytesOf } from './bytes.js';
 import { hash, verifyAndRenew, verifyUnknown } from './calls.js';
 import { UnknownPepper } from './errors.js';
-import { optionOf } from './options.js';
+import { optionOf, optionsOf } from './options.js';
 
 /** Hashes with the newest of several peppers, and verifies with the pepper that a stored hash names. */
 export class PepperedHasher {
@@ -46,15 +46,20 @@ export class PepperedHasher {
         return this.#keys.get(keyId);
     }
 
+    /** The options that a call is passed, and otherwise the hasher's. An undefined one counts as missing. */
+    #optionsOf(options, secret) {
+        return { ...this.#options, ...optionsOf(options), secret };
+    }
+
     /** Hashes a password with the newest pepper: its ID and the PHC string, to be stored. */
     async hash(password, options = {}) {
-        const own = { ...this.#options, ...options, salt: undefined, raw: undefined };
-        return { keyId: this.newest, encoded: await hash(password, { ...own, secret: this.#newestKey }) };
+        const own = { ...this.#optionsOf(options, this.#newestKey), salt: undefined, raw: undefined };
+        return { keyId: this.newest, encoded: await hash(password, own) };
     }
 
     /** Whether a password matches, and what to store in place of these: an ID and a PHC string, or null. */
     async verifyAndUpdate(keyId, encoded, password, options = {}) {
-        const own = { ...this.#options, ...options, secret: this.#keyOf(keyId) };
+        const own = this.#optionsOf(options, this.#keyOf(keyId));
         const newSecret = keyId === this.newest ? undefined : this.#newestKey;
         const { matches, update } = await verifyAndRenew(encoded, password, own, newSecret);
         return { matches, update: update === null ? null : { keyId: this.newest, encoded: update } };
@@ -62,6 +67,6 @@ export class PepperedHasher {
 
     /** Takes as long as a verification, for a user who does not exist, and gives false. */
     async verifyUnknown(password, options = {}) {
-        return verifyUnknown(password, { ...this.#options, ...options, secret: this.#newestKey });
+        return verifyUnknown(password, this.#optionsOf(options, this.#newestKey));
     }
 }

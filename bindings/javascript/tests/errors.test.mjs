@@ -182,10 +182,10 @@ test('a call whose signal is already aborted rejects with the reason, and starts
     assert.equal(started(), 0);
 });
 
-test('the inputs of a call that is stopped before it runs are overwritten', async () => {
+/** Makes calls, and returns the bytes of all buffers that the package allocates meanwhile. */
+async function bytesOfBuffers(callWith) {
     const { ArrayBuffer: Buffers } = globalThis;
     const made = [];
-    const password = 'a password';
     globalThis.ArrayBuffer = class extends Buffers {
         constructor(length) {
             super(length);
@@ -193,23 +193,75 @@ test('the inputs of a call that is stopped before it runs are overwritten', asyn
         }
     };
     try {
-        const secret = Uint8Array.of(1, 2, 3);
-        const calls = [argon2.hash, (...values) => argon2.verify(ENCODED, ...values)];
-        for (const call of calls) {
-            const controller = new AbortController();
-            const stopped = call(password, { secret, signal: controller.signal });
-            assert.ok(made.some((bytes) => bytes.includes(0x70)), 'no copy was seen');
-            controller.abort();
-            await assert.rejects(stopped, { name: 'AbortError' });
-        }
+        await callWith(made);
     } finally {
         globalThis.ArrayBuffer = Buffers;
     }
+    return made;
+}
+
+/** (A buffer that was moved to a worker has no bytes here.) */
+const isZero = (bytes) => bytes.length === 0 || bytes.every((byte) => byte === 0);
+const SECRET = Uint8Array.of(1, 2, 3);
+
+test('the inputs of a call that is stopped before it runs are overwritten', async () => {
+    const password = 'a password';
+    const made = await bytesOfBuffers(async (seen) => {
+        const calls = [argon2.hash, (...values) => argon2.verify(ENCODED, ...values)];
+        for (const call of calls) {
+            const controller = new AbortController();
+            const stopped = call(password, { secret: SECRET, signal: controller.signal });
+            assert.ok(seen.some((bytes) => bytes.includes(0x70)), 'no copy was seen');
+            controller.abort();
+            await assert.rejects(stopped, { name: 'AbortError' });
+        }
+    });
     const inputs = made.filter((bytes) => bytes.length === 3 || bytes.length === 3 * password.length);
     assert.equal(inputs.length, 4);
-    assert.ok(inputs.every((bytes) => bytes.every((byte) => byte === 0)));
+    assert.ok(inputs.every(isZero));
 });
 
+test('if an input is rejected, the copies of the others are overwritten', async () => {
+    const salt = new Uint8Array(8);
+    const made = await bytesOfBuffers(async () => {
+        for (const [password, options] of [['\ud800', {}], [5, {}], ['password', { associatedData: 'text' }]]) {
+            const all = { secret: SECRET, ...options };
+            await assert.rejects(argon2.hash(password, { ...all, salt }), TypeError);
+            await assert.rejects(argon2.verify(ENCODED, password, all), TypeError);
+            await assert.rejects(argon2.verifyAndUpdate(ENCODED, password, all), TypeError);
+            await assert.rejects(argon2.verifyUnknown(password, all), TypeError);
+        }
+    });
+    assert.equal(made.filter((bytes) => bytes.length === SECRET.length).length, 12);
+    assert.ok(made.every(isZero));
+});
+
+test('the tag of a call that is stopped after its last slice is overwritten', async () => {
+    const salt = new Uint8Array(8);
+    for (const worker of [true, false]) {
+        const made = await bytesOfBuffers(async () => {
+            const onProgress = (done, all) => {
+                assert.ok(done < all, 'the last slice');
+            };
+            const options = { memoryCost: 256, raw: true, salt, worker, onProgress };
+            await assert.rejects(argon2.hash('', options), { message: 'the last slice' });
+        });
+        assert.ok(made.every(isZero), `worker: ${worker}`);
+    }
+});
+
+test('the error of a value that is no bytes does not contain the value', async () => {
+    const calls = [
+        () => argon2.hash(12345678), () => argon2.hash('password', { secret: 'MY-PEPPER' }),
+        async () => new argon2.PepperedHasher([['2026', 'MY-PEPPER']]),
+    ];
+    for (const call of calls) {
+        await assert.rejects(call, (error) => error instanceof TypeError && !/12345678|MY-PEPPER/.test(inspect(error)));
+    }
+});
+
+const POOR = `data:text/javascript,WebAssembly.Memory = class { constructor() { throw new RangeError('denied'); } }`;
+const UNLOADABLE = 'data:text/javascript,process.dlopen = () => { globalThis.loads = true; }';
 const OLD = 'data:text/javascript,delete process.getBuiltinModule; delete globalThis.crypto';
 const { allowedNodeEnvironmentFlags, arch, platform, versions } = process;
 const PERMISSION = ['--permission', '--experimental-permission'].find((flag) => allowedNodeEnvironmentFlags.has(flag));
@@ -223,6 +275,11 @@ const PROCESSES = [
     ['an engine without the addon is Unsupported for a call with `native: true`', [], { PROVED_ARGON2_NATIVE: '0' },
         "hash('password', { native: true })", `Unsupported: There is no addon for ${platform} on ${arch}, `
         + "where WebAssembly computes without 'native': PROVED_ARGON2_NATIVE is 0"],
+    ['if the engine denies the memory of quick calls, the error is OutOfMemory', ['--import', POOR],
+        { PROVED_ARGON2_NATIVE: '0' }, "needsRehash(ENCODED)", 'OutOfMemory: Out of memory'],
+    ['a call with `native: false` does not load the addon', ['--import', UNLOADABLE], {},
+        `verifyAndUpdate(ENCODED, 'password', { native: false, memoryCost: 64 }).then(({ matches, update }) =>
+            [matches, update.includes('m=64'), globalThis.loads].join())`, 'true,true,'],
     ['where Node denies workers, the caller computes', [PERMISSION, `--allow-fs-read=${import.meta.dirname}/*`], {},
         `hash('password', { memoryCost: 64, parallelism: 2 }).then(async (encoded) =>
             [process.permission.has('worker'), await verify(encoded, 'password')].join())`, 'false,true'],
@@ -231,7 +288,8 @@ const PROCESSES = [
 for (const [what, flags, variables, call, expected] of PROCESSES) {
     test(what, async () => {
         const program = join(import.meta.dirname, 'flagged.mjs');
-        writeFileSync(program, `import { hash, needsRehash, verify } from 'proved-argon2';
+        writeFileSync(program, `import { hash, needsRehash, verify, verifyAndUpdate } from 'proved-argon2';
+            const ENCODED = '${ENCODED}';
             console.log(await ${call}.catch(String));`);
         assert.equal((await outputOf([...flags, program], variables)).trim(), expected);
     });

@@ -95,6 +95,39 @@ test('a call that is aborted while it waits leaves the line', limited, async () 
     await requireFree(line);
 });
 
+test('a signal that is not aborted stops no call that waits, whatever event it dispatches', limited, async () => {
+    const line = new Line({ concurrency: 1 });
+    const { signal } = new AbortController();
+    let release;
+    const holding = line.run(() => new Promise((resolve) => {
+        release = resolve;
+    }));
+    let isRunning = false;
+    const waiting = line.run(() => {
+        isRunning = true;
+    }, { signal });
+    signal.dispatchEvent(new Event('abort'));
+    await sleep(10);
+    assert.equal(isRunning, false);
+    release();
+    await Promise.all([holding, waiting]);
+    assert.equal(isRunning, true);
+});
+
+test('the limits of a call that waits are those at its beginning', limited, async () => {
+    const line = new Line({ concurrency: 1 });
+    let release;
+    const holding = line.run(() => new Promise((resolve) => {
+        release = resolve;
+    }));
+    const limits = { memoryCost: 1 };
+    const waiting = [verify, verifyAndUpdate].map((call) => call(old, 'password', { ...SMALL, line, limits }));
+    limits.memoryCost = 65536;
+    release();
+    const outcomes = await Promise.allSettled([...waiting, holding]);
+    assert.deepEqual(outcomes.slice(0, 2).map(({ reason }) => reason?.name), ['TooCostly', 'TooCostly']);
+});
+
 test('verifyAndUpdate takes one place for both of its calls, and copies its inputs at once', async () => {
     const line = new Line({ concurrency: 1, waiting: 1 });
     const first = line.run(() => sleep(20));

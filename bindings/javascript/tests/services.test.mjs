@@ -45,6 +45,41 @@ test('if only the new hash fails, the password matches, and errors of the verifi
     await assert.rejects(argon2.verifyAndUpdate(old, 'password', { ...small, signal }), argon2.AbortError);
 });
 
+test('invalid settings are an error, whether the password is right or not', async () => {
+    const encoded = await argon2.hash('password', small);
+    for (const [memoryCost, error] of [['65536', TypeError], [65536.5, RangeError]]) {
+        for (const password of ['password', 'Password']) {
+            await assert.rejects(argon2.verifyAndUpdate(encoded, password, { ...small, memoryCost }), error);
+        }
+    }
+});
+
+test('a rehash that the caller stops rejects with the reason, even if that is an error of this package', async () => {
+    const encoded = await argon2.hash('password', small);
+    const reason = new argon2.BusyError('shutdown');
+    const controller = new AbortController();
+    const inRehash = (stop) => {
+        let begun = 0;
+        return (done) => {
+            begun += done === 1;
+            if (begun === 2) {
+                stop();
+            }
+        };
+    };
+    const throwReason = () => {
+        throw reason;
+    };
+    const calls = [
+        { onProgress: inRehash(throwReason) },
+        { onProgress: inRehash(() => controller.abort(reason)), signal: controller.signal },
+    ];
+    for (const options of calls) {
+        const stopped = argon2.verifyAndUpdate(encoded, 'password', { ...small, timeCost: 2, ...options });
+        await assert.rejects(stopped, (error) => error === reason);
+    }
+});
+
 test('new hashes have the newest pepper, and hashes of other peppers are renewed with it', async () => {
     const old = new PepperedHasher([['2025', bytes('old')]], small);
     const peppers = new Map([['2026', bytes('new')], ['2025', bytes('old')]]);
@@ -133,6 +168,14 @@ test('a hash of the newest pepper is renewed where it has other settings', async
     const { update } = await hasher.verifyAndUpdate('2026', encoded, 'password');
     assert.match(update.encoded, /m=64,t=1,p=2/);
     assert.equal(await argon2.verify(update.encoded, 'password', { secret: bytes('new') }), true);
+});
+
+test("an option of a call that is undefined does not replace the hasher's", async () => {
+    const hasher = new PepperedHasher([['2026', pepper.secret]], { ...small, limits: { memoryCost: 32 } });
+    const missing = { memoryCost: undefined, limits: undefined };
+    const { keyId, encoded } = await hasher.hash('password', missing);
+    assert.match(encoded, /m=64,t=1,p=2/);
+    await assert.rejects(hasher.verifyAndUpdate(keyId, encoded, 'password', missing), { name: 'TooCostly' });
 });
 
 test('each call has options of its own, and no salt', async () => {
@@ -227,6 +270,19 @@ test('tune measures hashes on this machine', async () => {
     }
     await assert.rejects(argon2.tune(0.001, { memoryCost: 7168 }), RangeError);
     await assert.rejects(argon2.tune('250'), TypeError);
+});
+
+test('tune waits in a line before it measures, and not while it does', async () => {
+    let turns = 0;
+    class CountingLine extends argon2.Line {
+        run(...values) {
+            turns += 1;
+            return super.run(...values);
+        }
+    }
+    const tuned = await argon2.tune(60000, { memoryCost: 8192, line: new CountingLine({ concurrency: 1 }) });
+    assert.equal(tuned.parameters.timeCost, 10);
+    assert.equal(turns, 2); // for 5 and for 10 passes
 });
 
 test('the example of the page runs', async () => {
