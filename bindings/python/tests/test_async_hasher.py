@@ -1,5 +1,6 @@
 """`AsyncPasswordHasher`: its results, its limits, cancellation, forked children, and denied threads."""
 import asyncio
+import contextlib
 import gc
 import multiprocessing
 import subprocess
@@ -7,11 +8,12 @@ import sys
 import threading
 import time
 import weakref
+from unittest import mock
 
 import pytest
 from processes import PATIENCE, status_of_child
 from proved_argon2 import AsyncPasswordHasher, PasswordHasher, PepperedHasher, _pool
-from proved_argon2.exceptions import BusyError, TooCostlyError, VerifyMismatchError
+from proved_argon2.exceptions import Argon2Error, BusyError, HashingError, TooCostlyError, VerifyMismatchError
 
 HASHER = PasswordHasher(time_cost=1, memory_cost=64, parallelism=2)
 # A hash that takes more than a minute.
@@ -74,6 +76,20 @@ print("the program ends", flush=True)
 """
 
 
+@pytest.fixture
+def without_collector():
+    """Turn off the collector of garbage, so that objects which refer to each other stay alive."""
+    gc.collect()
+    gc.disable()
+    yield
+    gc.enable()
+
+
+def deny(*_):
+    """Stands in for `Thread.start` when the system denies a thread."""
+    raise RuntimeError("can't start new thread")
+
+
 def run(program):
     """Return what a program prints, which must succeed."""
     words = [sys.executable, "-W", "error", "-c", program]
@@ -110,6 +126,28 @@ def test_run_makes_calls_of_a_peppered_hasher():
         assert await hasher.run(peppered.verify_unknown, "password") is False
 
     asyncio.run(log_in())
+
+
+@pytest.mark.parametrize("error", [OSError, NotImplementedError])
+def test_a_login_goes_on_if_the_system_makes_no_salt(error):
+    """Only the new hash, which would replace the old one, needs a salt."""
+    async def log_in():
+        hasher, old = AsyncPasswordHasher(HASHER), PasswordHasher(2, 64, 2).hash("password")
+        with mock.patch("os.urandom", side_effect=error):
+            assert await hasher.verify_and_update(old, "password") == (True, None)
+            with pytest.raises(HashingError):
+                await hasher.hash("password")
+
+    asyncio.run(log_in())
+
+
+def test_a_call_that_raises_stop_iteration_raises_runtime_error():
+    async def call():
+        with pytest.raises(RuntimeError) as raised:
+            await asyncio.wait_for(AsyncPasswordHasher().run(lambda progress: next(iter(()))), PATIENCE / 4)
+        assert isinstance(raised.value.__cause__, StopIteration)
+
+    asyncio.run(call())
 
 
 def test_concurrent_and_waiting_calls_are_limited():
@@ -155,7 +193,7 @@ def test_cancelled_calls_free_their_places():
     assert time.monotonic() - begun < PATIENCE
 
 
-def test_an_ended_or_cancelled_call_keeps_no_argument():
+def test_an_ended_or_cancelled_call_keeps_no_argument(without_collector):
     class Argument:
         """Stands in for a password."""
 
@@ -177,12 +215,48 @@ def test_an_ended_or_cancelled_call_keeps_no_argument():
         blocking = asyncio.ensure_future(hasher.run(lambda progress: go.wait(5)))
         await asyncio.sleep(0.05)
         cancelled = await end(hasher, is_cancelled=True)
-        gc.collect()
         assert (ended(), cancelled()) == (None, None)
         go.set()
         await blocking
 
     asyncio.run(end_all())
+
+
+def test_no_exception_or_result_keeps_a_password(without_collector):
+    class Password(str):
+        """A password that can be referred to weakly."""
+
+        def __init__(self, _):
+            kept.append(weakref.ref(self))
+
+    def stop(password, progress):
+        raise StopIteration
+
+    async def cancel(hasher):
+        call = asyncio.ensure_future(hasher.hash(Password("password")))
+        await asyncio.sleep(0.1)
+        call.cancel()
+        await asyncio.wait([call])
+
+    async def hash_without_threads(hasher):
+        with mock.patch.object(threading.Thread, "start", deny):
+            await hasher.hash(Password("password"))
+
+    async def call_all(hasher, encoded):
+        for call in (lambda: hasher.hash(Password("password")), lambda: hasher.verify(encoded, Password("Password")),
+                     lambda: hasher.verify(encoded.replace("m=64", "m=4294967295"), Password("password")),
+                     lambda: hasher.verify_unknown(Password("password")), lambda: hasher.run(stop, Password("x")),
+                     lambda: cancel(AsyncPasswordHasher(LONG)),
+                     lambda: hash_without_threads(AsyncPasswordHasher(HASHER))):
+            with contextlib.suppress(Argon2Error, RuntimeError):
+                await call()
+        end = time.monotonic() + PATIENCE / 4
+        while any(password() for password in kept) and time.monotonic() < end:
+            await asyncio.sleep(0.01)  # A thread forgets a call after it has delivered the result.
+        assert [password() for password in kept] == [None] * 7
+
+    kept = []
+    asyncio.run(call_all(AsyncPasswordHasher(HASHER), HASHER.hash("password")))
 
 
 @pytest.mark.parametrize("bounds", [{"concurrency": 0}, {"waiting": -1}])
@@ -332,6 +406,36 @@ def test_a_thread_that_fails_is_replaced(monkeypatch):
         assert not hasher._pool._jobs
 
     asyncio.run(lose_a_thread())
+
+
+@pytest.mark.filterwarnings("ignore::pytest.PytestUnhandledThreadExceptionWarning")
+@pytest.mark.parametrize("denied", [
+    mock.patch.object(threading.Thread, "start", deny),
+    mock.patch.object(_pool, "Worker", side_effect=MemoryError)])
+def test_calls_that_wait_are_refused_if_the_only_thread_fails_and_is_not_replaced(denied):
+    go = threading.Event()
+
+    def fail(job):
+        go.wait(PATIENCE)
+        raise MemoryError
+
+    async def lose_the_only_thread():
+        hasher = AsyncPasswordHasher(HASHER, concurrency=1, waiting=3)
+        with mock.patch.object(_pool.Job, "run", fail):
+            lost, *waiting = (asyncio.ensure_future(hasher.hash("password")) for _ in range(4))
+            await asyncio.sleep(0.05)
+            waiting.pop().cancel()
+            with denied:
+                go.set()
+                for call in waiting:
+                    with pytest.raises(BusyError, match="^a thread failed, and no other takes its place: "):
+                        await asyncio.wait_for(call, PATIENCE / 4)
+        lost.cancel()
+        assert not hasher._pool._jobs and not hasher._pool._workers
+        calls = asyncio.gather(*[hasher.hash("password") for _ in range(4)])
+        assert len(await asyncio.wait_for(calls, PATIENCE / 4)) == 4
+
+    asyncio.run(lose_the_only_thread())
 
 
 def test_a_program_that_ends_stops_its_calls():

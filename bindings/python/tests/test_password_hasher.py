@@ -282,6 +282,18 @@ def test_verify_and_update_accepts_the_password_if_the_new_hash_cannot_be_comput
         assert PasswordHasher(**SMALL).verify_and_update(old, "password") == (True, None)
 
 
+@of_the_old_calls
+@pytest.mark.parametrize("error", [OSError("no device"), NotImplementedError("no device")])
+def test_the_right_password_is_accepted_and_no_hash_is_made_if_the_system_makes_no_salt(error):
+    old, hasher = PasswordHasher(**OTHER).hash("password"), PasswordHasher(**SMALL)
+    with mock.patch("os.urandom", side_effect=error):
+        assert hasher.verify_and_update(old, "password") == (True, None)
+        assert hasher.verify_and_update(old, "Password") == (False, None)
+        for call in (lambda: hasher.hash("password"), *(lambda old=old: old(b"password") for old in OLD_CALLS[:2])):
+            with pytest.raises(HashingError, match="^the system makes no random salt: no device$"):
+                call()
+
+
 @pytest.mark.parametrize("text, error", [
     ("x", InvalidHashError), ("$argon2id$x", VerificationError),
     (TEXT.replace("m=256", "m=4294967295"), TooCostlyError)])

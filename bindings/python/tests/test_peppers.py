@@ -1,4 +1,6 @@
 """`PepperedHasher`: peppers that rotate, hashes without a pepper, and peppers that are unknown."""
+from unittest import mock
+
 import pytest
 from proved_argon2 import PasswordHasher, PepperedHasher, Type, low_level
 from proved_argon2.exceptions import (
@@ -36,6 +38,13 @@ def test_a_hash_with_an_older_pepper_is_renewed_for_the_right_password_only():
     assert (is_match, key_id) == (True, "2026") and PasswordHasher(secret=b"new").verify(renewed, "password")
 
 
+def test_a_hash_is_not_renewed_if_the_system_makes_no_salt():
+    hasher = PepperedHasher(PEPPERS, **SMALL)
+    for error in (OSError, NotImplementedError):
+        with mock.patch("os.urandom", side_effect=error):
+            assert hasher.verify_and_update("2025", hash_with(b"old"), "password") == (True, None)
+
+
 def test_a_hash_does_not_match_with_the_pepper_of_another_id():
     hasher = PepperedHasher(PEPPERS, **SMALL)
     assert hasher.verify_and_update("2026", hash_with(b"old"), "password") == (False, None)
@@ -60,6 +69,12 @@ def test_a_hash_without_pepper_is_accepted_during_a_migration_only():
     assert hasher.verify_and_update(key_id, renewed, "password") == (True, None)
     with pytest.raises(UnknownPepperError):
         hasher.verify_and_update("2025", renewed, "password")
+
+
+@pytest.mark.parametrize("accept", ["false", "", 1, None])
+def test_accept_unpeppered_must_be_a_bool(accept):
+    with pytest.raises(TypeError, match="^'accept_unpeppered' must be bool, not "):
+        PepperedHasher(PEPPERS, accept_unpeppered=accept, **SMALL)
 
 
 @pytest.mark.parametrize("peppers, error, words", [

@@ -1,11 +1,14 @@
 """The callback `progress`, and how exceptions of it and of signal handlers stop a call."""
 import _thread
+import contextlib
 import ctypes
+import gc
 import os
 import signal
 import subprocess
 import sys
 import time
+import weakref
 from concurrent.futures import ThreadPoolExecutor
 
 import pytest
@@ -54,6 +57,20 @@ def long_calls(**named):
         yield lambda: hasher.hash("password", **named)
         yield lambda: hasher.verify(TEXT, "password", **named)
     yield lambda: verify_secret(TEXT.encode(), b"password", Type.ID, **named)
+
+
+@pytest.mark.parametrize("is_stopped", [False, True])
+def test_a_call_does_not_keep_progress(is_stopped):
+    def progress(done, slices):
+        assert not is_stopped
+
+    kept = weakref.ref(progress)
+    gc.disable()
+    with contextlib.suppress(AssertionError):
+        PasswordHasher(1, 64, 1).hash("password", progress=progress)
+    del progress
+    gc.enable()
+    assert kept() is None
 
 
 @pytest.mark.parametrize("costs", [(1, 8, 1), (3, 64, 1), (2, 640, 3), (5, 4096, 4)])

@@ -11,7 +11,7 @@ from unittest import mock
 import pytest
 from processes import PATIENCE, found_in, is_mapped, resident, status_of_child
 from proved_argon2 import AsyncPasswordHasher, PasswordHasher, _library, _memory, _pool
-from proved_argon2.exceptions import VerifyMismatchError
+from proved_argon2.exceptions import TooCostlyError, VerifyMismatchError
 
 NEW = _library._library.proved_argon2_memory_new
 MIB = 1 << 20
@@ -196,6 +196,23 @@ def test_a_buffer_that_is_larger_than_recent_calls_need_is_freed(monkeypatch, ne
         now[0] += seconds
         settings_of(kib).hash("password")
         assert memory._pages.length == expected << 10
+    memory.give_back()
+
+
+@pytest.mark.parametrize("kib, passes", [(4 << 20, 1), (6144, 1000)])
+def test_a_refused_call_does_not_keep_a_buffer(monkeypatch, kib, passes):
+    """It names as much memory as the buffer has, or more, but uses none."""
+    now, encoded = [1000.0], settings_of(1024).hash("password")
+    monkeypatch.setattr("time.monotonic", lambda: now[0])
+    memory = _memory.ThreadMemory()
+    monkeypatch.setattr(_memory.current_thread, "memory", memory, raising=False)
+    settings_of(8192).hash("password")
+    for length in (8 * MIB, 0):
+        now[0] += 6
+        settings_of(1024).verify(encoded, "password")
+        assert memory._pages.length == length
+        with pytest.raises(TooCostlyError):
+            settings_of(1024).verify(encoded.replace("m=1024,t=1", f"m={kib},t={passes}"), "password")
     memory.give_back()
 
 

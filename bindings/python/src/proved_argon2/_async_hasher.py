@@ -25,7 +25,7 @@ class AsyncPasswordHasher:
 
     At most `concurrency` calls compute at a time, each in a thread. At most `waiting` more calls wait for them. A call
     beyond these raises `BusyError` at once, so that a service can answer "try again later" before memory runs out.
-    `BusyError` is also raised if the system denies the first thread; if it denies a later one, calls wait for the
+    `BusyError` is also raised if the system denies the only thread; if it denies another one, calls wait for the
     threads that there are.
 
     By default, `concurrency` is the number of processors divided by the lanes, or less if that many hashes need more

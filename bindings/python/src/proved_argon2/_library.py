@@ -22,6 +22,7 @@ MISMATCH = 64
 NOT_ASCII = 66
 UNKNOWN_NUMBER = 67
 TOO_COSTLY = 69
+STOPPED = 130
 
 # The greatest value of a setting.
 MAX_NUMBER = 0xFFFFFFFF
@@ -192,9 +193,9 @@ class ProgressCallback:
     def __init__(self, progress: "Optional[Progress]", slices: int) -> None:
         self._raised: "List[BaseException]" = []
         self._is_entered = False
-        generator = self._answers(progress, slices)
-        next(generator)
-        self.send = generator.send
+        self._generator = self._answers(progress, slices)
+        next(self._generator)
+        self.send = self._generator.send
 
     def _answers(self, progress: "Optional[Progress]", slices: int) -> "Generator[int, object, None]":
         """Yield 1 to stop the call and 0 to go on: once before the call, and then once for each slice."""
@@ -217,6 +218,7 @@ class ProgressCallback:
 
     def __exit__(self, *_: object) -> None:
         self._is_entered = False
+        self._generator.close()  # It and this object would keep each other, with what `progress` has.
         if self._raised:
             raise self._raised.pop()
 
@@ -262,6 +264,8 @@ def _compute(
             if number == OUT_OF_MEMORY and pages is not None and pages.is_too_small(settings):
                 grown = pages if pages.grow(settings) else None
                 number = call(_options(settings.lanes, limits, grown, callback))
+            if pages is not None:
+                pages.is_used = number in (OK, MISMATCH, STOPPED)
         return number
 
     if progress is None and not _runs_handlers():

@@ -22,12 +22,16 @@ _NOWHERE = ctypes.addressof(_NOTHING)
 
 
 class Pages:
-    """One buffer that the library allocated, or an empty one. Each call clears the part that it used."""
+    """One buffer that the library allocated, or an empty one. Each call clears the part that it used.
 
-    __slots__ = ("address", "length", "used")
+    `is_used` says whether the last call computed, and `used` when the buffer was last needed.
+    """
+
+    __slots__ = ("address", "is_used", "length", "used")
 
     def __init__(self) -> None:
         self.address, self.length = _NOWHERE, 0
+        self.is_used = False
         self.used = time.monotonic()
 
     def is_too_small(self, settings: Settings) -> bool:
@@ -123,7 +127,7 @@ class ThreadMemory:
             yield self._pages
         finally:
             self._is_lent = False
-            self._give_back_oversized(memory_len(settings))
+            self._give_back_oversized(memory_len(settings) if self._pages.is_used else 0)
 
     def _give_back_oversized(self, needed: int) -> None:
         """Free a buffer that is larger than recent calls needed: one costly hash must not hold memory for ever."""

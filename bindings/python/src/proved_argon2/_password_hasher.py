@@ -200,15 +200,14 @@ class PasswordHasher:
 
         The module `low_level` describes `progress`.
 
-        Raises `HashingError` if the settings are rejected or memory cannot be allocated, and `UnicodeEncodeError` if
-        the password has characters that `encoding` cannot represent, such as lone surrogates.
+        Raises `HashingError` if the settings are rejected, memory cannot be allocated or the system makes no salt, and
+        `UnicodeEncodeError` if the password has characters that `encoding` cannot represent, such as lone surrogates.
         """
         if salt is None:
             require_number("salt_len", self.salt_len, HashingError)
         return hash_secret(
-            self._password_bytes(password), os.urandom(self.salt_len) if salt is None else salt, self.time_cost,
-            self.memory_cost, self.parallelism, self.hash_len, self.type, key=self._secret, memory=self._memory,
-            progress=progress,
+            self._password_bytes(password), _salt_or_random(salt, self.salt_len), self.time_cost, self.memory_cost,
+            self.parallelism, self.hash_len, self.type, key=self._secret, memory=self._memory, progress=progress,
         ).decode("ascii")
 
     def verify(
@@ -310,8 +309,12 @@ def _warn(name: str) -> None:
     warnings.warn(f"argon2.{name} is deprecated, use argon2.PasswordHasher instead", DeprecationWarning, stacklevel=3)
 
 
-def _salt_or_random(salt: "Optional[bytes]") -> bytes:
-    return os.urandom(DEFAULT_RANDOM_SALT_LENGTH) if salt is None else salt
+def _salt_or_random(salt: "Optional[bytes]", length: int = DEFAULT_RANDOM_SALT_LENGTH) -> bytes:
+    """Return the salt, or a random one if it is `None`. Raises `HashingError` if the system makes none."""
+    try:
+        return os.urandom(length) if salt is None else salt
+    except (OSError, NotImplementedError) as error:
+        raise HashingError(f"the system makes no random salt: {error}") from None
 
 
 def hash_password(

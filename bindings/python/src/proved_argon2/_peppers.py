@@ -1,5 +1,5 @@
 """A `PasswordHasher` with several peppers; each stored hash uses one of them."""
-from ._password_hasher import PasswordHasher
+from ._password_hasher import PasswordHasher, require_types
 from .exceptions import UnknownPepperError
 
 TYPE_CHECKING = False
@@ -27,6 +27,7 @@ class PepperedHasher:
     def __init__(
         self, peppers: "Mapping[str, bytes]", *, accept_unpeppered: bool = False, **settings: "Any"
     ) -> None:
+        require_types(accept_unpeppered=(accept_unpeppered, bool))
         if not peppers:
             raise ValueError("'peppers' must have at least one key")
         self._hashers: "Dict[Optional[str], PasswordHasher]" = {}

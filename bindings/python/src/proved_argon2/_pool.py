@@ -22,6 +22,23 @@ if TYPE_CHECKING:
 IDLE_SECONDS = 10
 
 
+class Progress:
+    """What a call runs after each slice, to learn whether it is stopped.
+
+    It has no reference to the job: an exception has the frames of its call, and would keep itself, with the password,
+    by the job's future.
+    """
+
+    is_stopped = False
+
+    def __call__(self, done: int, slices: int) -> None:
+        """Raise `CancelledError` if the call is stopped."""
+        if self.is_stopped:
+            from asyncio import CancelledError
+
+            raise CancelledError
+
+
 class Job:
     """A call that a thread of a pool makes. `future` gets its result."""
 
@@ -30,27 +47,31 @@ class Job:
         from concurrent.futures import Future
 
         self._call, self._arguments, self._named = call, arguments, named
-        self._is_stopped = False
+        self._progress = Progress()
         self.future: "Future[Any]" = Future()
 
     def stop(self) -> None:
         """Have the call end after the slice that it computes."""
-        self._is_stopped = True
+        self._progress.is_stopped = True
 
     def run(self) -> None:
         """Make the call in this thread."""
         if not self.future.set_running_or_notify_cancel():
             return
         try:
-            self.future.set_result(self._call(*self._arguments, **self._named, progress=self._progress))
+            try:
+                result = self._call(*self._arguments, **self._named, progress=self._progress)
+            except StopIteration as error:  # A future of asyncio does not accept it.
+                raise RuntimeError("the call raised StopIteration") from error
+            self.future.set_result(result)
         except BaseException as error:
             self.future.set_exception(error)
+            del self  # The exception has this frame, and would keep itself by the job's future.
 
-    def _progress(self, done: int, slices: int) -> None:
-        if self._is_stopped:
-            from asyncio import CancelledError
-
-            raise CancelledError
+    def refuse(self, words: str) -> None:
+        """Have the call, which waits, end with `BusyError`."""
+        if self.future.set_running_or_notify_cancel():
+            self.future.set_exception(BusyError(words))
 
 
 class Worker:
@@ -122,6 +143,8 @@ class Pool:
         except asyncio.CancelledError:
             job.stop()
             raise
+        finally:
+            del job  # An exception has this frame, and would keep itself by the job's future.
 
     def submit(self, call: "Callable[..., Any]", arguments: "Tuple[Any, ...]", named: "Dict[str, Any]") -> Job:
         """Have a thread make a call, now or later. Its place is free again when it has ended or is cancelled.
@@ -152,6 +175,7 @@ class Pool:
             worker.thread.start()
         except (RuntimeError, MemoryError) as error:
             self._workers.discard(worker)
+            del worker.thread  # It and the worker would keep each other, with the job.
             if not self._workers:
                 raise BusyError(f"the system denied a thread: {error}") from None
             return False
@@ -182,11 +206,20 @@ class Pool:
             return is_idle
 
     def replace(self, worker: Worker) -> None:
-        """Have another thread do the jobs of a thread that has failed."""
+        """Have another thread do the jobs of a thread that has failed. If there is none, refuse those that wait."""
         with self._lock:
             self._workers.discard(worker)
-            if self._waiting:
-                self._hand_over(self._waiting.popleft())
+        while True:
+            with self._lock:
+                if not self._waiting:
+                    return
+                job = self._waiting.popleft()
+                try:
+                    self._hand_over(job)
+                    return
+                except (BusyError, MemoryError) as error:
+                    words = f"a thread failed, and no other takes its place: {error}"
+            job.refuse(words)  # This calls `forget`, which locks.
 
     def close(self) -> None:
         """Stop all calls, and wait until no thread computes."""

@@ -25,13 +25,15 @@ class UnknownPepperError(VerificationError):
 
 
 class HashingError(Argon2Error):
-    """A password could not be hashed: the settings were rejected, or memory could not be allocated."""
+    """A password could not be hashed: the settings were rejected, memory could not be allocated, or the system made no
+    salt.
+    """
 
 
 class BusyError(Argon2Error):
     """The `AsyncPasswordHasher` cannot take another call now; try again later.
 
-    All places to compute and wait are taken, the system denied the first thread, or Python is ending.
+    All places to compute and wait are taken, the system denied the only thread, or Python is ending.
     """
 
 
