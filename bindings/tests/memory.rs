@@ -1,10 +1,11 @@
 //! The buffers that the crate for Rust keeps from call to call, what calls leave of a password, and the buffers of a
-//! `Line`. The linker gives this program the library's call that allocates a buffer (`--wrap`), which it counts and can
-//! deny, and the system's call that starts a thread, which it can deny. codes.rs tests when a call allocates a buffer.
+//! `Line`. The linker gives this program the library's call that allocates a buffer (`--wrap`), and the system's call
+//! that starts a thread, which it counts and can deny. codes.rs tests when a call allocates a buffer.
 
+use argon2::password_hash::{PasswordHasher, PasswordVerifier};
 use argon2::{
     hash_encoded, hash_encoded_in, hash_raw, hash_raw_in, verify_encoded_in, verify_encoded_within_in, verify_raw,
-    verify_raw_in, Config, Error, Limits, Line, Memory, ThreadMode, Unverified,
+    verify_raw_in, Argon2, Config, Error, Limits, Line, Memory, ThreadMode, Unverified,
 };
 use std::fs::{read_to_string, File};
 use std::io::Read;
@@ -18,7 +19,8 @@ static PLACE: AtomicUsize = AtomicUsize::new(0);
 static IS_DENIED: AtomicBool = AtomicBool::new(false);
 const OUT_OF_MEMORY: u32 = 20;
 
-/// Whether threads are denied, and the error number of that.
+/// How many threads were started, whether the next ones are denied, and the error number of that.
+static THREADS: AtomicUsize = AtomicUsize::new(0);
 static ARE_THREADS_DENIED: AtomicBool = AtomicBool::new(false);
 const EAGAIN: i32 = 11;
 
@@ -46,7 +48,9 @@ unsafe extern "C" fn __wrap_pthread_create(thread: usize, attributes: usize, sta
     if ARE_THREADS_DENIED.load(SeqCst) {
         return EAGAIN;
     }
-    __real_pthread_create(thread, attributes, start, argument)
+    let error = __real_pthread_create(thread, attributes, start, argument);
+    THREADS.fetch_add(usize::from(error == 0), SeqCst);
+    error
 }
 
 /// The bytes of the buffer that was allocated last, which is this one.
@@ -130,8 +134,13 @@ fn errors_leave_the_buffer_unchanged() {
     assert!(bytes(&mut memory).iter().all(|byte| *byte == 0xa5));
 }
 
-/// How often the memory that this process may write to contains these bytes.
+/// How often the memory that this process may write to contains these bytes. A forked child counts, in which no other
+/// thread unmaps memory meanwhile.
 fn occurrences_of(word: &[u8]) -> usize {
+    (status_of_child(|| count(word) as i32) >> 8) as usize
+}
+
+fn count(word: &[u8]) -> usize {
     let mut maps = String::with_capacity(1 << 20); // so that nothing is mapped or unmapped meanwhile
     File::open("/proc/self/maps").and_then(|mut file| file.read_to_string(&mut maps)).unwrap();
     let places = maps.lines().filter(|line| line.contains(" rw")).map(|line| {
@@ -159,6 +168,29 @@ fn no_copy_of_a_password_is_left() {
         assert_eq!(line.wait().unwrap().run().verify_unknown(&pwd, &config), Ok(false));
         assert_eq!(occurrences_of(&pwd[32..]), 1);
     }
+}
+
+/// No call leaves a copy of a tag that it does not return, or returns in the caller's own memory.
+fn no_copy_of_a_tag_is_left() {
+    let (config, salt) = (Config { hash_length: 64, ..settings(1024, 4, ThreadMode::Parallel) }, [0; 16]);
+    let tag = hash_raw(PWD, &salt, &config).unwrap();
+    assert_eq!(argon2::verify_unknown(PWD, &config), Ok(false));
+    assert_eq!(occurrences_of(&tag[32..]), 1);
+    let mut key = [0; 64];
+    Argon2::from(config).hash_password_into(PWD, &salt, &mut key).unwrap();
+    assert_eq!((key[..] == tag[..], occurrences_of(&tag[32..])), (true, 2));
+    key.fill(0);
+    assert_eq!((key, occurrences_of(&tag[32..])), ([0; 64], 1));
+}
+
+/// A stored hash of more lanes is verified by as few threads as any other, although the hasher computes one with all.
+fn a_hasher_of_the_traits_verifies_with_at_most_16_threads() {
+    let hasher = Argon2::from(settings(64 << 10, 64, ThreadMode::Parallel));
+    let before = THREADS.load(SeqCst);
+    let stored = hasher.hash_password(PWD, "c29tZXNhbHQ").unwrap();
+    assert_eq!(THREADS.load(SeqCst), before + 63);
+    hasher.verify_password(PWD, &stored).unwrap();
+    assert_eq!(THREADS.load(SeqCst), before + 63 + 15);
 }
 
 /// Computes a hash of 19 MiB in a place of the line.
@@ -223,18 +255,17 @@ fn a_line_without_a_thread_keeps_no_buffer() {
     assert_eq!(allocations(), before + 3);
 }
 
-/// Whether a forked child ends well.
-fn ends_well_in_a_child(work: impl FnOnce()) -> bool {
+/// How a forked child ended that exits with the number that this work returns.
+fn status_of_child(work: impl FnOnce() -> i32) -> i32 {
     let mut status = -1;
     unsafe {
         let child = fork();
         if child == 0 {
-            work();
-            _exit(0);
+            _exit(work());
         }
         assert!(child > 0 && waitpid(child, &mut status, 0) == child);
     }
-    status == 0
+    status
 }
 
 /// In a forked child all places are free, though the parent holds both and another thread waits. The child uses no
@@ -253,7 +284,7 @@ fn a_forked_child_has_all_places_and_no_buffer() {
     let kept = Line::new(1, 0);
     hash_in(&kept);
     let before = allocations();
-    assert!(ends_well_in_a_child(move || {
+    let status = status_of_child(move || {
         hash_in(&kept);
         assert_eq!(allocations(), before + 1);
         inherited.run().hash_raw(PWD, SALT, &Config::default()).unwrap();
@@ -263,7 +294,9 @@ fn a_forked_child_has_all_places_and_no_buffer() {
         drop(places);
         hash_in(&line);
         assert_eq!(allocations(), before + 3);
-    }));
+        0
+    });
+    assert_eq!(status, 0);
     drop(held);
     waiting.join().unwrap();
 }
@@ -272,6 +305,8 @@ fn main() {
     calls_clear_what_they_used();
     errors_leave_the_buffer_unchanged();
     no_copy_of_a_password_is_left();
+    no_copy_of_a_tag_is_left();
+    a_hasher_of_the_traits_verifies_with_at_most_16_threads();
     a_place_whose_buffer_is_denied_computes_without_one();
     a_line_without_a_thread_keeps_no_buffer();
     a_forked_child_has_all_places_and_no_buffer();

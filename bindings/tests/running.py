@@ -143,8 +143,12 @@ def first_lines(page, count=5):
     return lines
 
 
-def project(folder, main, dependencies=f'argon2 = {{ package = "proved-argon2", path = "{TOP}/bindings/rust" }}',
-            file="main.rs", more=""):
+def with_crate(*features):
+    """The line of a manifest that names the crate as a dependency."""
+    return f'argon2 = {{ package = "proved-argon2", path = "{TOP}/bindings/rust", features = {[*features]} }}\n'
+
+
+def project(folder, main, dependencies=with_crate(), file="main.rs", more=""):
     """A program in Rust, or a library."""
     (folder / "src").mkdir(parents=True, exist_ok=True)
     (folder / "Cargo.toml").write_text(

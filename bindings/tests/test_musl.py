@@ -4,7 +4,7 @@ programs of Rust, statically. The tests in C are bindings/c's, for the target mu
 import re
 import shutil
 
-from running import TOP, VERSION, built, needs, project, refuses, run, start
+from running import TOP, VERSION, built, needs, project, refuses, run, start, with_crate
 
 BINDINGS, TESTS, MADE = TOP / 'bindings', TOP / 'bindings/tests', built() / 'x86_64'
 ARCHIVE, SHARED = MADE / 'libproved_argon2.a', MADE / f'libproved_argon2.so.{VERSION}'
@@ -114,7 +114,8 @@ def test_crate_passes_its_tests(cargo, tmp_path):
 @needs('cargo')
 def test_crate_clears_what_it_keeps(cargo, tmp_path):
     """(between calls, by one thread and by several: the program succeeds if all its checks do)"""
-    folder = project(tmp_path / 'keeping', (TESTS / 'memory.rs').read_text(encoding='utf-8'))
+    program = (TESTS / 'memory.rs').read_text(encoding='utf-8')
+    folder = project(tmp_path / 'keeping', program, with_crate('password-hash'))
     with_std(cargo, folder, tmp_path,
              ['link-arg=-Wl,--wrap=proved_argon2_memory_new,--wrap=pthread_create'], 'run', '--quiet')
 

@@ -9,7 +9,7 @@ import textwrap
 
 import pytest
 from running import CC, CODES, CRATES_OF_DEBIAN, HEADER, MACHINE, MEMORIES, NUMBERS, TOP, built as built_part
-from running import fetch, needs, project, refuses, run, start
+from running import fetch, needs, project, refuses, run, start, with_crate
 
 CRATE, HERE = TOP / "bindings/rust", TOP / "bindings/tests"
 REGISTRY = pathlib.Path("/usr/share/cargo/registry")
@@ -96,11 +96,6 @@ fn main() -> Result<(), Box<dyn std::error::Error>> {
     Ok(())
 }
 """
-
-
-def with_crate(*features):
-    """The line of a manifest that names the crate as a dependency."""
-    return f'argon2 = {{ package = "proved-argon2", path = "{CRATE}", features = {[*features]} }}\n'
 
 
 @pytest.fixture(scope="module")
@@ -203,11 +198,11 @@ def test_other_calls_pass_their_arguments_in_order(ask):
 @pytest.mark.parametrize("how", ["alone", "over"])
 def test_a_login_of_an_unknown_user_computes_one_hash_with_the_settings_and_never_matches(ask, how):
     """With as many threads as lanes, as a verification has, although the settings name three."""
-    numbers = [0, HEADER["OUT_OF_MEMORY"], HEADER["OLD_PROCESSOR"]]
+    numbers = [0, HEADER["MISMATCH"], HEADER["OUT_OF_MEMORY"], HEADER["OLD_PROCESSOR"]]
     said = ask(("verify_unknown", how, {"then": number}) for number in numbers)
     found = [(line.split("|")[0], line.split("|")[2], line.split("|")[-1]) for line in said]
-    assert found == [(verdict, "4", "raw word  key data 2 19 64 3 4 5") for verdict in (
-        "Ok(false)", "Err(OutOfMemory)", "Err(OldProcessor)")]
+    assert found == [(verdict, "4", "verify word  key data 2 19 64 3 4 5 ") for verdict in (
+        "Ok(false)", "Ok(false)", "Err(OutOfMemory)", "Err(OldProcessor)")]
 
 
 # The crates of each program, which are Debian's, and the compiler's flags. For `memory` the linker wraps the calls that
@@ -215,7 +210,7 @@ def test_a_login_of_an_unknown_user_computes_one_hash_with_the_settings_and_neve
 # package.
 TOKIO = 'tokio = { version = "1", features = ["rt-multi-thread", "macros", "time"] }'
 PROGRAMS = {
-    "memory": (with_crate(), "-Clink-arg=-Wl,--wrap=proved_argon2_memory_new,--wrap=pthread_create"),
+    "memory": (with_crate("password-hash"), "-Clink-arg=-Wl,--wrap=proved_argon2_memory_new,--wrap=pthread_create"),
     "traits": (with_crate("password-hash"), ""),
     "serde": (with_crate("serde") + 'serde = "1"', ""),
     "page": (with_crate() + TOKIO, ""),

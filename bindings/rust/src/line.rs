@@ -20,7 +20,7 @@ const IDLE: Duration = Duration::from_secs(10);
 /// ```
 /// use proved_argon2::{self as argon2, Config, Line};
 ///
-/// let line = Line::of(&Config::default(), 256 << 20); // hashes use at most 256 MiB
+/// let line = Line::of(&Config::default(), 256 << 20); // such hashes use at most 256 MiB
 /// let stored = argon2::hash_password(b"correct horse")?;
 /// let mut place = line.wait()?; // or Err(Busy): answer with HTTP status 503
 /// assert!(place.run().verify_password(&stored, b"correct horse")?);
@@ -39,7 +39,8 @@ const IDLE: Duration = Duration::from_secs(10);
 ///
 /// Each place has a reusable buffer, which the calls of [`Place::run`] use. This saves the time in which the system
 /// maps, clears and unmaps memory. Each call clears the buffer before it returns. There are never more buffers than
-/// places. A buffer that nobody has used for ten seconds is freed, by a thread that sleeps meanwhile.
+/// places. A buffer that nobody has used for ten seconds is freed, by a thread that sleeps meanwhile. A buffer of which
+/// no hash has needed more than half for ten seconds is freed when its place is left.
 ///
 /// # Fork
 ///
@@ -185,12 +186,12 @@ impl Shared {
         state
     }
 
-    /// Takes back a place with its buffer, and gives the place to the first in the queue, if there is one.
+    /// Takes back a place with its buffer, and gives the place to the first in the queue, if there is one. One costly
+    /// hash must not hold memory for as long as there are others: a buffer that they do not need is freed.
     fn leave(self: &Arc<Self>, memory: Memory) {
+        let needed = Some(memory).filter(|memory| memory.is_needed_within(self.idle));
         let mut state = self.lock();
-        if memory.size() > 0 {
-            state.kept.push((memory, Instant::now()));
-        }
+        state.kept.extend(needed.map(|memory| (memory, Instant::now())));
         let is_unwatched = !state.kept.is_empty() && !state.is_watched;
         state.is_watched |= is_unwatched;
         let next = state.queue.pop_front();
@@ -256,21 +257,22 @@ impl Future for Enter {
 
     fn poll(mut self: Pin<&mut Self>, context: &mut Context<'_>) -> Poll<Self::Output> {
         let line = Arc::clone(&self.line);
+        // (the waker that remains is dropped after the lock: it may own a task that has a place of this line)
+        let mut waker = context.waker().clone();
         let mut state = line.lock();
         let process = state.process;
         match self.ticket.filter(|ticket| ticket.0 == process) {
             Some((_, ticket)) => {
                 if let Some(entry) = state.queue.iter_mut().find(|entry| entry.0 == ticket) {
-                    entry.1 = context.waker().clone();
+                    mem::swap(&mut entry.1, &mut waker);
                     return Poll::Pending;
                 } // otherwise a caller who left has given its place to this one
             }
             None if state.free > 0 => state.free -= 1,
             None if state.queue.len() >= line.waiting => return Poll::Ready(Err(Busy)),
             None => {
-                // (if cloning the waker panics, no ticket stays in the queue without a caller)
                 let ticket = state.next_ticket;
-                state.queue.push_back((ticket, context.waker().clone()));
+                state.queue.push_back((ticket, waker));
                 state.next_ticket += 1;
                 self.ticket = Some((process, ticket));
                 return Poll::Pending;
@@ -290,11 +292,10 @@ impl Drop for Enter {
             if state.process != process {
                 return; // the parent's queue is not here
             }
-            let before = state.queue.len();
-            state.queue.retain(|entry| entry.0 != ticket);
-            let has_place = state.queue.len() == before;
-            drop(state);
-            if has_place {
+            let index = state.queue.iter().position(|entry| entry.0 == ticket);
+            let entry = index.and_then(|index| state.queue.remove(index));
+            drop(state); // before the waker, which may own a task that has a place of this line
+            if entry.is_none() {
                 self.line.leave(Memory::new());
             }
         }

@@ -118,11 +118,23 @@ impl<'a> Run<'a> {
     /// Makes a call that writes this many bytes, and returns them. The settings are checked before memory is allocated.
     fn hash(&mut self, pwd: &[u8], salt: &[u8], config: &Config<'_>, length: u64, call: Writing) -> Result<Vec<u8>> {
         require_done(ffi::check(pwd, salt, config))?;
-        let (length, mut out) = (usize::try_from(length).map_err(|_| Error::OutOfMemory)?, Vec::new());
-        out.try_reserve_exact(length).map_err(|_| Error::OutOfMemory)?;
-        out.resize(length, 0);
+        let mut out = zeros(length)?;
         require_done(self.call(|| Settings::of(config), |extras| call(pwd, salt, config, extras, &mut out)))?;
         Ok(out)
+    }
+
+    /// Writes a tag to `out`, whose length replaces `config.hash_length`. An error leaves `out` unchanged.
+    #[cfg(feature = "password-hash")]
+    pub(crate) fn hash_raw_into(&mut self, pwd: &[u8], salt: &[u8], config: &Config<'_>, out: &mut [u8]) -> Result<()> {
+        let hash_length = u32::try_from(out.len()).map_err(|_| Error::OutputTooLong)?;
+        let config = Config { hash_length, ..*config };
+        require_done(self.call(|| Settings::of(&config), |extras| ffi::hash_raw(pwd, salt, &config, extras, out)))
+    }
+
+    /// Computes a hash that nobody learns: the library overwrites the tag, as it does with any that it compares.
+    pub(crate) fn compute(&mut self, pwd: &[u8], salt: &[u8], config: &Config<'_>) -> Result<()> {
+        require_done(ffi::check(pwd, salt, config))?;
+        self.verify_raw(pwd, salt, &zeros(config.hash_length.into())?, config).map(|_| ())
     }
 
     /// Verifies with limits or without.
@@ -132,12 +144,16 @@ impl<'a> Run<'a> {
     }
 
     /// Makes a call with the buffer and the callback, and returns its number. The settings are computed only if the
-    /// buffer is too small.
-    fn call(&mut self, settings: impl FnOnce() -> Settings, mut call: impl FnMut(Extras<'_, 'a>) -> u32) -> u32 {
+    /// buffer is too small, or is that of a place.
+    fn call(&mut self, settings: impl Fn() -> Settings, mut call: impl FnMut(Extras<'_, 'a>) -> u32) -> u32 {
         let Run { memory, is_memory_optional, progress } = self;
         let mut number = OUT_OF_MEMORY;
         if let Some(memory) = memory {
-            number = memory.call(settings, |buffer| call(Extras { buffer: Some(buffer), progress: progress.as_mut() }));
+            number =
+                memory.call(&settings, |buffer| call(Extras { buffer: Some(buffer), progress: progress.as_mut() }));
+            if *is_memory_optional {
+                memory.note_need(&settings());
+            }
         }
         let is_denied = |memory: &Memory| *is_memory_optional && number == OUT_OF_MEMORY && memory.size() == 0;
         if memory.as_deref().map_or(true, is_denied) {
@@ -154,6 +170,14 @@ impl fmt::Debug for Run<'_> {
     fn fmt(&self, f: &mut fmt::Formatter<'_>) -> fmt::Result {
         f.debug_struct("Run").field("memory", &self.memory).field("has_progress", &self.progress.is_some()).finish()
     }
+}
+
+/// This many zeros, if the system grants memory for them.
+fn zeros(length: u64) -> Result<Vec<u8>> {
+    let (length, mut zeros) = (usize::try_from(length).map_err(|_| Error::OutOfMemory)?, Vec::new());
+    zeros.try_reserve_exact(length).map_err(|_| Error::OutOfMemory)?;
+    zeros.resize(length, 0);
+    Ok(zeros)
 }
 
 /// Whether a verifying call returned a match. Any number that is not a verdict is an error.

@@ -2,7 +2,7 @@ use crate::{ffi, needs_rehash, Config, Limits, Result, Run, ThreadMode, Unverifi
 use std::result;
 
 /// The most threads that verify an encoded hash, however many lanes it has (`PROVED_ARGON2_MAX_VERIFYING_THREADS`).
-const MOST_THREADS: u32 = 16;
+pub(crate) const MOST_THREADS: u32 = 16;
 
 /// Verifies a password at a login, and hashes it anew if the stored hash is outdated.
 ///
@@ -82,7 +82,7 @@ impl Run<'_> {
     pub fn verify_unknown(&mut self, pwd: &[u8], config: &Config<'_>) -> Result<bool> {
         let as_verified = Config { thread_mode: ThreadMode::AtMost(MOST_THREADS), ..*config };
         // (a fixed salt serves, since nobody learns the hash)
-        self.hash_raw(pwd, &[0; ffi::SALT_SIZE], &as_verified).map(|_| false)
+        self.compute(pwd, &[0; ffi::SALT_SIZE], &as_verified).map(|()| false)
     }
 
     /// Verifies with the secret of one configuration, and hashes anew with another.

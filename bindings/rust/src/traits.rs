@@ -1,7 +1,8 @@
 //! The traits of the crate `password-hash`, for programs that were written for RustCrypto's `argon2`.
 
 use crate::run::require_done;
-use crate::{ffi, Config, Error, Limits, Variant, Version};
+use crate::service::MOST_THREADS;
+use crate::{ffi, Config, Error, Limits, Run, ThreadMode, Variant, Version};
 use password_hash::{
     Decimal, Encoding, Error as HashError, Ident, Output, ParamsString, PasswordHash, PasswordHasher, Result, Salt,
 };
@@ -102,7 +103,7 @@ impl From<Error> for HashError {
 /// A hasher with settings, like the type of this name in RustCrypto's crate. By default the settings are
 /// [`Config::default`].
 ///
-/// It verifies stored hashes within [`Limits::at_least`] of those settings.
+/// It verifies stored hashes within [`Limits::at_least`] of those settings, and with at most 16 threads.
 ///
 /// # Examples
 ///
@@ -159,17 +160,17 @@ impl<'key> Argon2<'key> {
     ///
     /// As [`hash_raw`](crate::hash_raw).
     pub fn hash_password_into(&self, pwd: &[u8], salt: &[u8], out: &mut [u8]) -> crate::Result<()> {
-        let hash_length = u32::try_from(out.len()).map_err(|_| Error::OutputTooLong)?;
-        out.copy_from_slice(&crate::hash_raw(pwd, salt, &Config { hash_length, ..self.config })?);
-        Ok(())
+        Run::new().hash_raw_into(pwd, salt, &self.config, out)
     }
 
-    /// The settings that a stored hash names, if they are within limits.
+    /// The settings that a stored hash names, if they are within limits, with the threads that may verify it.
     fn config_of(&self, name: Ident<'_>, version: Option<Decimal>, params: Params) -> Result<Config<'key>> {
         let variant = Variant::from_str(name.as_str()).map_err(|_| HashError::Algorithm)?;
         // (a hash without a version is of the older one)
         let version = version.map_or(Ok(Version::Version10), Version::from_u32)?;
         let config = Config { variant, version, ..self.with(params) };
+        let thread_mode = ThreadMode::AtMost(config.workers().min(MOST_THREADS));
+        let config = Config { thread_mode, ..config };
         Limits::at_least(&self.config).allow(&config).then_some(config).ok_or(HashError::Crypto)
     }
 
@@ -209,13 +210,14 @@ impl PasswordHasher for Argon2<'_> {
         let salt = salt.into();
         let mut buffer = [0; MOST_OF_A_SALT];
         let bytes = Encoding::B64.decode(salt.as_str(), &mut buffer)?;
-        let tag = crate::hash_raw(password, bytes, &config)?;
+        let length = config.hash_length as usize;
+        let tag = Output::init_with(length, |out| Ok(Run::new().hash_raw_into(password, bytes, &config, out)?))?;
         Ok(PasswordHash {
             algorithm: Ident::try_from(config.variant.as_lowercase_str())?,
             version: Some(config.version.as_u32()),
             params: Params::of(&config).try_into()?,
             salt: Some(salt),
-            hash: Some(Output::new(&tag)?),
+            hash: Some(tag),
         })
     }
 }

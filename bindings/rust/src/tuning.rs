@@ -1,4 +1,4 @@
-use crate::{hash_raw, Config, Limits, Result};
+use crate::{Config, Limits, Result, Run};
 use std::fs;
 use std::time::{Duration, Instant};
 
@@ -29,7 +29,7 @@ pub struct Tuning<'a> {
 ///
 /// # Errors
 ///
-/// As [`hash_raw`].
+/// As [`hash_raw`](crate::hash_raw).
 ///
 /// # Examples
 ///
@@ -83,7 +83,7 @@ fn measure(config: &Config<'_>) -> Result<Duration> {
     let mut least = Duration::MAX;
     for _ in 0..ROUNDS {
         let begun = Instant::now();
-        hash_raw(b"", b"somesalt", config)?;
+        Run::new().compute(b"", b"somesalt", config)?;
         least = least.min(begun.elapsed());
     }
     Ok(least)

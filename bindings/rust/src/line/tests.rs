@@ -1,12 +1,12 @@
 //! Places, the queue, and the buffers that places keep.
 
-use super::{Busy, Line, Unpark};
+use super::{Busy, Enter, Line, Place, Unpark};
 use crate::Config;
 use std::future::Future;
 use std::pin::Pin;
 use std::sync::atomic::{AtomicUsize, Ordering::SeqCst};
-use std::sync::Arc;
-use std::task::{Context, Poll, Waker};
+use std::sync::{mpsc, Arc};
+use std::task::{Context, Poll, Wake, Waker};
 use std::thread;
 use std::time::{Duration, Instant};
 
@@ -87,6 +87,53 @@ fn a_caller_who_leaves_passes_the_place_on() {
     assert_eq!(state_of(&line), (1, 0));
 }
 
+/// Wakes nobody, and owns a place, as an executor's waker owns the task that has the place.
+struct Owner {
+    _place: Place,
+}
+
+impl Wake for Owner {
+    fn wake(self: Arc<Self>) {}
+}
+
+/// A caller who waits for the only place of a line. The line has the last waker that owns this place.
+fn waiting_for_its_own_place(line: &Line) -> Enter {
+    let owner = Waker::from(Arc::new(Owner { _place: line.wait().unwrap() }));
+    let mut enter = line.enter();
+    assert!(Pin::new(&mut enter).poll(&mut Context::from_waker(&owner)).is_pending());
+    enter
+}
+
+/// Whether this work succeeds in a thread, and does not wait for ever.
+fn ends(work: impl FnOnce() + Send + 'static) -> bool {
+    let (done, end) = mpsc::channel();
+    thread::spawn(move || {
+        work();
+        done.send(()).unwrap();
+    });
+    end.recv_timeout(Duration::from_secs(60)).is_ok()
+}
+
+#[test]
+fn a_waker_that_is_replaced_may_own_a_place() {
+    assert!(ends(|| {
+        let (line, waker) = (Line::new(1, 1), waker());
+        let (mut enter, mut context) = (waiting_for_its_own_place(&line), Context::from_waker(&waker));
+        assert!(Pin::new(&mut enter).poll(&mut context).is_pending());
+        // The owner has left its place to this caller.
+        assert!(matches!(Pin::new(&mut enter).poll(&mut context), Poll::Ready(Ok(_))));
+    }));
+}
+
+#[test]
+fn the_waker_of_a_caller_who_leaves_may_own_a_place() {
+    assert!(ends(|| {
+        let line = Line::new(1, 1);
+        drop(waiting_for_its_own_place(&line));
+        assert_eq!(state_of(&line), (1, 0));
+    }));
+}
+
 #[test]
 fn the_number_of_places_fits_the_settings_the_processors_and_the_memory() {
     let places = |config: &Config<'_>, memory| state_of(&Line::of(config, memory)).0;
@@ -151,6 +198,25 @@ fn only_buffers_that_are_idle_for_long_enough_are_freed() {
     assert_eq!(kept_by(&line), []);
     hash_in(&line, 64); // the next buffer is watched anew
     assert!(line.0.lock().is_watched);
+}
+
+#[test]
+fn a_buffer_is_freed_although_it_is_used_if_no_hash_has_needed_half_of_it_for_long_enough() {
+    let idle = Duration::from_secs(2);
+    let line = Line::keeping(1, 0, idle);
+    let begun = Instant::now();
+    hash_in(&line, 128);
+    while begun.elapsed() < idle * 3 / 4 {
+        hash_in(&line, 32);
+        assert_eq!(kept_by(&line), [128 << 10]);
+    }
+    let begun = Instant::now();
+    hash_in(&line, 68); // it needs more than half
+    while kept_by(&line) != [32 << 10] {
+        assert!(begun.elapsed() < 10 * idle, "no buffer is freed");
+        hash_in(&line, 32);
+    }
+    assert!(begun.elapsed() >= idle);
 }
 
 #[test]
