@@ -145,6 +145,7 @@ test('a string of node-argon2 that contains its associated data is verified with
     const options = { associatedData: Buffer.from('user 7') };
     assert.equal(await argon2.verify(encoded, 'password'), true);
     assert.equal(await argon2.verify(encoded, 'password', options), true);
+    assert.equal((await argon2.verifyAndUpdate(encoded, 'password')).matches, true);
     assert.equal(await argon2.verify(encoded, 'passwort'), false);
     assert.equal(await argon2.verify(encoded, 'password', { associatedData: Buffer.from('user 8') }), false);
     assert.equal(await argon2.verify(encoded.replace('dXNlciA3', 'dXNlciA4'), 'password'), false);
