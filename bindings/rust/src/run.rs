@@ -151,8 +151,8 @@ impl<'a> Run<'a> {
         if let Some(memory) = memory {
             number =
                 memory.call(&settings, |buffer| call(Extras { buffer: Some(buffer), progress: progress.as_mut() }));
-            if *is_memory_optional {
-                memory.note_need(&settings());
+            if *is_memory_optional && verdict(number).is_ok() {
+                memory.note_need(&settings()); // (a call that is rejected computes nothing)
             }
         }
         let is_denied = |memory: &Memory| *is_memory_optional && number == OUT_OF_MEMORY && memory.size() == 0;

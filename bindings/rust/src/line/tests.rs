@@ -1,7 +1,7 @@
 //! Places, the queue, and the buffers that places keep.
 
 use super::{Busy, Enter, Line, Place, Unpark};
-use crate::Config;
+use crate::{Config, Limits, Unverified};
 use std::future::Future;
 use std::pin::Pin;
 use std::sync::atomic::{AtomicUsize, Ordering::SeqCst};
@@ -31,6 +31,14 @@ fn small(mem_cost: u32) -> Config<'static> {
 /// Computes a hash in a new place, in this many KiB.
 fn hash_in(line: &Line, mem_cost: u32) {
     line.wait().unwrap().run().hash_raw(b"password", b"somesalt", &small(mem_cost)).unwrap();
+}
+
+/// Asks a new place to verify a hash that needs this many KiB. The limits reject it.
+fn reject_in(line: &Line, mem_cost: u32) {
+    let stored = crate::hash_encoded(b"password", b"somesalt", &small(mem_cost)).unwrap();
+    let limits = Limits { mem_cost: mem_cost - 1, ..Limits::default() };
+    let rejected = line.wait().unwrap().run().verify_encoded_within(&stored, b"password", &[], &[], &limits);
+    assert_eq!(rejected, Err(Unverified::TooCostly));
 }
 
 fn waker() -> Waker {
@@ -215,6 +223,7 @@ fn a_buffer_is_freed_although_it_is_used_if_no_hash_has_needed_half_of_it_for_lo
     while kept_by(&line) != [32 << 10] {
         assert!(begun.elapsed() < 10 * idle, "no buffer is freed");
         hash_in(&line, 32);
+        reject_in(&line, 128);
     }
     assert!(begun.elapsed() >= idle);
 }
