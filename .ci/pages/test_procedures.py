@@ -58,6 +58,18 @@ PROCEDURES = {
     'a build for a processor': [('build/machines.txt', 'x86-64: x86-64-v2 ', 'x86-64: x86-64-v1 x86-64-v2 '),
                                 ('build/machines.txt', '[+] x86-64-v2 ', '+ x86-64-v1 ssse3\n+ x86-64-v2 ')],
 }
+PUBLISHER, CONTACT = 'A Publisher', 'security@publisher.org'
+# What a publisher fills in by hand (docs/INSTALL.md).
+FILLED_IN = [('PROJECT', r'(?s)\A.+', f'Name: proved-argon2\nPublisher: {PUBLISHER}\nContact: {CONTACT}\n'
+              'Address: https://publisher.org/proved-argon2\n'),
+             ('debian/changelog', ' -- .*>', f' -- {PUBLISHER} <{CONTACT}>'),
+             ('CHANGELOG.md', 'Unreleased, November 2026', '1 December 2026')]
+# Why the tag is not signed. Each edit is a reason by itself.
+UNSIGNED = {
+    'PROJECT has placeholders': ('PROJECT', 'publisher.org/', 'publisher.example/'),
+    'a part of the packages that has no licence': ('proved-argon2.spdx', 'Concluded: MIT.*', 'Concluded: NOASSERTION'),
+    'unreleased': ('CHANGELOG.md', '1 December 2026', 'Unreleased'),
+    'release/ is of other sources': ('crates/argon2_c/src/errors.rt', r'\Z', '\n')}
 STEPS = ('.ci/pages/write',
          f'gcc -I bindings/c/include -fsyntax-only {RESULTS} {NUMBERS} bindings/c/src/proved_argon2_builds.c',
          '.ci/quick --documents')
@@ -81,6 +93,51 @@ def test_a_new_address_replaces_the_old_one_everywhere(copy):
     copy.change('PROJECT', 'Address: https://vemkuorl.example/', 'Address: https://new.example/')
     copy.run('.ci/pages/write')
     assert run('git', 'grep', '-l', 'https://vemkuorl.example/', '--', ':!.ci', cwd=copy.top).stdout == ''
+
+
+@pytest.fixture
+def finished(copy, tmp_path, monkeypatch):
+    """A copy whose publisher has filled in everything, and has a key to sign with."""
+    (tmp_path / 'keys').mkdir(mode=0o700)
+    monkeypatch.setenv('GNUPGHOME', str(tmp_path / 'keys'))
+    copy.run('gpg', '--batch', '--passphrase', '', '--quick-gen-key', f'{PUBLISHER} <{CONTACT}>')
+    for name, value in ('name', PUBLISHER), ('email', CONTACT):
+        copy.run('git', 'config', f'user.{name}', value)
+    for edit in FILLED_IN:
+        copy.change(*edit)
+    copy.run('.ci/pages/write')
+    (copy.top / 'bindings/out').unlink()
+    yield copy
+    run('gpgconf', '--kill', 'all')
+
+
+def commit(copy):
+    copy.run('git', 'commit', '-qam', 'release: change what the tag depends on')
+
+
+def sign(copy):
+    return run('.ci/release/tag', cwd=copy.top)
+
+
+def note_that_ci_passed(copy):
+    (copy.top / 'out').mkdir(exist_ok=True)
+    (copy.top / 'out/passed').write_text(copy.run('git', 'rev-parse', 'HEAD'), encoding='utf-8')
+
+
+def test_the_tag_is_signed_only_if_nothing_prevents_it(finished):
+    assert 'a file is not committed' in sign(finished).stdout
+    commit(finished)
+    assert 'CI has not passed over this commit' in sign(finished).stdout
+    for reason, edit in UNSIGNED.items():
+        finished.change(*edit)
+        commit(finished)
+        note_that_ci_passed(finished)
+        assert reason in sign(finished).stdout
+        finished.run('git', 'reset', '-q', '--hard', 'HEAD~')
+    assert not finished.run('git', 'tag')
+    note_that_ci_passed(finished)
+    assert not sign(finished).returncode
+    finished.run('git', 'tag', '--verify', finished.run('git', 'tag').strip())
 
 
 @pytest.mark.parametrize('change, place', [
