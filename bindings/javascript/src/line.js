@@ -13,6 +13,29 @@ function reasonOf({ reason }) {
     return isPlatforms ? new AbortError(reason.message, { cause: reason }) : reason;
 }
 
+/** What to stop when a signal is aborted. Node warns of a leak at 11 listeners, so all calls of a signal share one. */
+const stopsOf = new WeakMap();
+
+/** Stops the calls of a signal. (Anybody can dispatch such an event to a signal that is not aborted.) */
+function stopAll({ currentTarget: signal }) {
+    if (signal.aborted) {
+        stopsOf.get(signal).forEach((stop) => stop());
+    }
+}
+
+/** Calls `stop` when a signal is aborted. Returns a function that forgets it, and with the last one the listener. */
+function listenTo(signal, stop) {
+    const stops = stopsOf.get(signal) ?? new Set();
+    stopsOf.set(signal, stops.add(stop));
+    signal.addEventListener('abort', stopAll);
+    return () => {
+        stops.delete(stop);
+        if (stops.size === 0) {
+            signal.removeEventListener('abort', stopAll);
+        }
+    };
+}
+
 /** The progress of a call: its callback, and the signal that stops it. */
 export class Progress {
     #onProgress;
@@ -44,11 +67,9 @@ export class Progress {
         return this.isStopped;
     }
 
-    /** Calls `stop` when the signal is aborted. Returns a function that removes this listener. */
+    /** Calls `stop` when the signal is aborted. Returns a function that undoes this. */
     whenAborted(stop) {
-        const stopIfAborted = () => this.isStopped && stop(); // (anybody can dispatch such an event)
-        this.signal?.addEventListener('abort', stopIfAborted);
-        return () => this.signal?.removeEventListener('abort', stopIfAborted);
+        return this.signal === undefined ? () => {} : listenTo(this.signal, stop);
     }
 
     /** Throws what the callback threw, or the signal's reason. */

@@ -1,6 +1,7 @@
 // A line: a number of calls compute, more wait in order, others are rejected at once, and each call frees its place,
 // however it ends.
 import assert from 'node:assert/strict';
+import { getEventListeners } from 'node:events';
 import os from 'node:os';
 import { test } from 'node:test';
 import { setImmediate as immediate, setTimeout as sleep } from 'node:timers/promises';
@@ -112,6 +113,20 @@ test('a signal that is not aborted stops no call that waits, whatever event it d
     release();
     await Promise.all([holding, waiting]);
     assert.equal(isRunning, true);
+});
+
+test('calls with the same signal share one listener, which stays until the last has ended', limited, async () => {
+    const controller = new AbortController();
+    const { signal } = controller;
+    const countListeners = () => getEventListeners(signal, 'abort').length;
+    const [line, other] = [new Line({ concurrency: 1 }), new Line({ concurrency: 1 })];
+    const calls = [{}, { worker: false }, { line }].flatMap((running) =>
+        Array.from({ length: 5 }, () => hash('password', { ...ENDLESS, ...running, signal })));
+    await Promise.all([other.run(() => sleep(20)), other.run(() => 0, { signal })]);
+    const listeners = countListeners();
+    controller.abort();
+    await Promise.all(calls.map((call) => assert.rejects(call, { name: 'AbortError' })));
+    assert.deepEqual([listeners, countListeners()], [1, 0]);
 });
 
 test('the limits of a call that waits are those at its beginning', limited, async () => {
