@@ -20,6 +20,9 @@ export class Rejected extends Error {
     }
 }
 
+/** The error to throw in place of an engine's: by a RangeError it denies memory. */
+export const deniedOr = (error) => (error instanceof RangeError ? new Rejected(OUT_OF_MEMORY) : error);
+
 /** Throws if a call returned the number of an error. */
 export function check(code) {
     if (code !== OK) {

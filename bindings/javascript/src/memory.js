@@ -1,6 +1,6 @@
 // A memory with an instance of the proved module. It holds what calls are passed, and is overwritten after them.
 import { copyOf } from './bytes.js';
-import { OUT_OF_MEMORY, Rejected } from './codes.js';
+import { OUT_OF_MEMORY, Rejected, deniedOr } from './codes.js';
 
 const PAGE = 65536;
 /** The size of an instance's stack, PROVED_ARGON2_STACK_SIZE. The default stack is at the start of the memory. */
@@ -53,8 +53,12 @@ export class Memory {
     /** A new memory. Other workers can join it if the module is the one for shared memories. */
     static async open(module) {
         const memory = importsMemory(module) ? makeShared() : undefined;
-        const instance = await WebAssembly.instantiate(module, { env: { memory } });
-        return new Memory(instance, memory ?? instance.exports.memory);
+        try {
+            const instance = await WebAssembly.instantiate(module, { env: { memory } });
+            return new Memory(instance, memory ?? instance.exports.memory);
+        } catch (error) {
+            throw deniedOr(error);
+        }
     }
 
     /** Joins the memory of another worker, with a stack of its own in it. */
@@ -89,7 +93,7 @@ export class Memory {
             try {
                 this.#memory.grow(pages);
             } catch (error) {
-                throw error instanceof RangeError ? new Rejected(OUT_OF_MEMORY) : error;
+                throw deniedOr(error);
             }
         }
     }
@@ -125,7 +129,11 @@ export class Memory {
 
     /** A copy of the bytes at a place. */
     read(place) {
-        return copyOf(this.view(place));
+        try {
+            return copyOf(this.view(place));
+        } catch (error) {
+            throw deniedOr(error);
+        }
     }
 
     /** Makes a call, and returns its result. A place is passed as an address and a length. */

@@ -1,7 +1,7 @@
 // The native addon of Node, if it loads: its quick calls, and runs in its own threads.
 import { addonFile } from './assets.js';
 import { allocate } from './bytes.js';
-import { check, OK, OUT_OF_MEMORY, Rejected, STOPPED } from './codes.js';
+import { check, deniedOr, OK, Rejected, STOPPED } from './codes.js';
 import { Unsupported } from './errors.js';
 import { Places } from './line.js';
 import { nodeThreads, processors } from './platform.js';
@@ -50,7 +50,7 @@ function allocateTag(length) {
     try {
         return allocate(length);
     } catch (error) {
-        throw error instanceof RangeError ? new Rejected(OUT_OF_MEMORY) : error;
+        throw deniedOr(error);
     }
 }
 

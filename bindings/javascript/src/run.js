@@ -139,11 +139,13 @@ async function computeOver(memory, task, { helpers, invite, report }) {
 }
 
 /**
- * Runs a task, and returns its code and the tag of a hash. `invite` asks helpers to join the memory, and waits for
- * them. The inputs and the memory are overwritten.
+ * Runs a task in a memory, or in the memory of a promise, and returns its code and the tag of a hash. `invite` asks
+ * helpers to join the memory, and waits for them. The inputs and the memory are overwritten.
  */
-export async function run(memory, task, company) {
+export async function run(opened, task, company) {
+    let memory;
     try {
+        memory = await opened;
         return await computeOver(memory, task, company);
     } catch (error) {
         if (error instanceof Rejected) {
@@ -152,6 +154,6 @@ export async function run(memory, task, company) {
         throw error;
     } finally {
         task.inputs.clear();
-        memory.clear();
+        memory?.clear();
     }
 }

@@ -30,10 +30,15 @@ function inviteBy(ports) {
     })));
 }
 
+/** The worker's own memory, which is opened for the first run. */
+async function openOwn(module) {
+    memory ??= await Memory.open(module);
+    return memory;
+}
+
 async function lead({ module, task, ports, isReported }) {
     isStopped = false;
     task.inputs = new Inputs(task.inputs);
-    memory ??= await Memory.open(module);
     const report = async (done, all) => {
         if (isReported) {
             caller.postMessage({ done, all });
@@ -41,7 +46,7 @@ async function lead({ module, task, ports, isReported }) {
         await yieldToTasks();
         return isStopped;
     };
-    const { code, tag } = await run(memory, task, { helpers: ports.length, invite: inviteBy(ports), report });
+    const { code, tag } = await run(openOwn(module), task, { helpers: ports.length, invite: inviteBy(ports), report });
     ports.forEach((port) => port.close());
     caller.postMessage({ code, tag }, tag ? [tag.buffer] : []);
 }

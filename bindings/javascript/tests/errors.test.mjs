@@ -261,6 +261,14 @@ test('the error of a value that is no bytes does not contain the value', async (
 });
 
 const POOR = `data:text/javascript,WebAssembly.Memory = class { constructor() { throw new RangeError('denied'); } }`;
+const POOR_INSTANCES = `data:text/javascript,WebAssembly.instantiate = async () => { throw new RangeError('denied'); }`;
+const POOR_WORKERS = `data:text/javascript,import threads from 'node:worker_threads';
+    threads.Worker = class extends threads.Worker {
+        constructor(file, options) { super(file, { ...options, execArgv: ['--import', ${JSON.stringify(POOR)}] }); }
+    };`;
+const POOR_TAGS = `data:text/javascript,globalThis.ArrayBuffer = new Proxy(ArrayBuffer, {
+        construct(Buffers, [length]) { if (length === 77) throw new RangeError('denied'); return new Buffers(length); }
+    });`;
 const UNLOADABLE = 'data:text/javascript,process.dlopen = () => { globalThis.loads = true; }';
 const OLD = 'data:text/javascript,delete process.getBuiltinModule; delete globalThis.crypto';
 const { allowedNodeEnvironmentFlags, arch, platform, versions } = process;
@@ -277,6 +285,12 @@ const PROCESSES = [
         + "where WebAssembly computes without 'native': PROVED_ARGON2_NATIVE is 0"],
     ['if the engine denies the memory of quick calls, the error is OutOfMemory', ['--import', POOR],
         { PROVED_ARGON2_NATIVE: '0' }, "needsRehash(ENCODED)", 'OutOfMemory: Out of memory'],
+    ['if the engine denies the memory of an instance, the error is OutOfMemory', ['--import', POOR_INSTANCES],
+        { PROVED_ARGON2_NATIVE: '0' }, "needsRehash(ENCODED)", 'OutOfMemory: Out of memory'],
+    ['if the engine denies the memory of a worker, the error is OutOfMemory', ['--import', POOR_WORKERS], {},
+        "hash('password', { native: false, parallelism: 2 })", 'OutOfMemory: Out of memory'],
+    ['if the engine denies the memory of a tag, the error is OutOfMemory', ['--import', POOR_TAGS], {},
+        "hash('password', { worker: false, hashLength: 77 })", 'OutOfMemory: Out of memory'],
     ['a call with `native: false` does not load the addon', ['--import', UNLOADABLE], {},
         `verifyAndUpdate(ENCODED, 'password', { native: false, memoryCost: 64 }).then(({ matches, update }) =>
             [matches, update.includes('m=64'), globalThis.loads].join())`, 'true,true,'],
