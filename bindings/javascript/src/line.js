@@ -86,7 +86,10 @@ export class Progress {
 /** A number of places. A call takes free ones at once, or waits its turn until others leave theirs. */
 export class Places {
     #taken = 0;
-    #waiting = [];
+    /** The calls that wait, by numbers in their order: an array would be moved for each call that leaves it. */
+    #waiting = new Map();
+    #first = 0;
+    #next = 0;
     #all;
 
     /** `all` returns how many places there are, which may change. */
@@ -96,7 +99,7 @@ export class Places {
 
     /** How many calls wait. */
     get waiting() {
-        return this.#waiting.length;
+        return this.#waiting.size;
     }
 
     /** Takes the free places, up to a maximum. Returns how many it took. */
@@ -110,10 +113,11 @@ export class Places {
     wait(progress) {
         let forget;
         const turn = new Promise((resolve, reject) => {
-            const call = { resolve, reject };
-            this.#waiting.push(call);
+            const number = this.#next;
+            this.#next += 1;
+            this.#waiting.set(number, resolve);
             forget = progress.whenAborted(() => {
-                this.#waiting = this.#waiting.filter((other) => other !== call);
+                this.#waiting.delete(number);
                 reject(new Rejected(STOPPED));
             });
         });
@@ -128,8 +132,18 @@ export class Places {
     leave(count) {
         this.#taken -= count;
         while (this.waiting > 0 && this.take(1) > 0) {
-            this.#waiting.shift().resolve(1);
+            this.#takeFirst()(1);
         }
+    }
+
+    /** Takes the first of the calls that wait out of the queue. Numbers of aborted calls are missing. */
+    #takeFirst() {
+        while (!this.#waiting.has(this.#first)) {
+            this.#first += 1;
+        }
+        const resolve = this.#waiting.get(this.#first);
+        this.#waiting.delete(this.#first);
+        return resolve;
     }
 }
 

@@ -129,6 +129,20 @@ test('calls with the same signal share one listener, which stays until the last 
     assert.deepEqual([listeners, countListeners()], [1, 0]);
 });
 
+test('many calls that wait for the same signal are stopped soon', limited, async () => {
+    const line = new Line({ concurrency: 1, waiting: 20000 });
+    const controller = new AbortController();
+    const holding = line.run(() => sleep(1));
+    const calls = Array.from({ length: line.waiting }, () => line.run(() => 0, { signal: controller.signal }));
+    const begun = performance.now();
+    controller.abort();
+    const took = performance.now() - begun;
+    const outcomes = await Promise.allSettled(calls);
+    await holding;
+    assert.ok(outcomes.every(({ reason }) => reason?.name === 'AbortError'));
+    assert.ok(took < 5000, `${took} milliseconds`);
+});
+
 test('the limits of a call that waits are those at its beginning', limited, async () => {
     const line = new Line({ concurrency: 1 });
     let release;
