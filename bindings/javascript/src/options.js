@@ -1,7 +1,7 @@
 // The options that a caller passes. They are checked and copied at once, since the caller may change them later. Each
 // is read once, and only if it is an object's own property: properties of Object.prototype are ignored.
 import { allocate, bytesOf, Inputs, passwordOf } from './bytes.js';
-import { NoRandomBytes } from './errors.js';
+import { NoRandomBytes, OutOfMemory } from './errors.js';
 import { requireEngine } from './platform.js';
 
 /** The variants, which differ in how a block's reference is chosen (RFC 9106, section 1). */
@@ -150,7 +150,7 @@ export function inputsOf(password, { salt, secret, associatedData }) {
         return inputs;
     } catch (error) {
         inputs.clear();
-        throw error;
+        throw error instanceof RangeError ? new OutOfMemory('Out of memory') : error;
     }
 }
 

@@ -266,7 +266,7 @@ const POOR_WORKERS = `data:text/javascript,import threads from 'node:worker_thre
     threads.Worker = class extends threads.Worker {
         constructor(file, options) { super(file, { ...options, execArgv: ['--import', ${JSON.stringify(POOR)}] }); }
     };`;
-const POOR_TAGS = `data:text/javascript,globalThis.ArrayBuffer = new Proxy(ArrayBuffer, {
+const POOR_BYTES = `data:text/javascript,globalThis.ArrayBuffer = new Proxy(ArrayBuffer, {
         construct(Buffers, [length]) { if (length === 77) throw new RangeError('denied'); return new Buffers(length); }
     });`;
 const UNLOADABLE = 'data:text/javascript,process.dlopen = () => { globalThis.loads = true; }';
@@ -289,8 +289,10 @@ const PROCESSES = [
         { PROVED_ARGON2_NATIVE: '0' }, "needsRehash(ENCODED)", 'OutOfMemory: Out of memory'],
     ['if the engine denies the memory of a worker, the error is OutOfMemory', ['--import', POOR_WORKERS], {},
         "hash('password', { native: false, parallelism: 2 })", 'OutOfMemory: Out of memory'],
-    ['if the engine denies the memory of a tag, the error is OutOfMemory', ['--import', POOR_TAGS], {},
+    ['if the engine denies the memory of a tag, the error is OutOfMemory', ['--import', POOR_BYTES], {},
         "hash('password', { worker: false, hashLength: 77 })", 'OutOfMemory: Out of memory'],
+    ['if the engine denies the memory of a copy of an input, the error is OutOfMemory', ['--import', POOR_BYTES], {},
+        "verify(ENCODED, new Uint8Array(77))", 'OutOfMemory: Out of memory'],
     ['a call with `native: false` does not load the addon', ['--import', UNLOADABLE], {},
         `verifyAndUpdate(ENCODED, 'password', { native: false, memoryCost: 64 }).then(({ matches, update }) =>
             [matches, update.includes('m=64'), globalThis.loads].join())`, 'true,true,'],
