@@ -1,4 +1,4 @@
--- The theorems of strings.
+-- Proofs of the theorems about encoded hashes.
 use Rattle.std.proofs.Common.{◌≡◌, ℕ, ◌==◌, if◌then◌else◌, List, get_or, Option, Some, None, refl, sym, ap, subst, ◌∙◌, inl, inr, ◌+◌, cond, ◌⊎◌, []}
 use Rattle.std.proofs.Common.{◌∷◌, ◌++◌, arith, zero-add, ◌<◌, ◌^◌, append_assoc, rules}
 use Rattle.std.specs.Fmt.{digits, decimal}
@@ -33,7 +33,7 @@ named-lowercase Argon2d = refl
 named-lowercase Argon2i = refl
 named-lowercase Argon2id = refl
 
--- the uppercase name of a variant stands for it
+-- the capitalized name of a variant stands for it
 named-capitalised : (v : Variant) → named (capitalised_name v) ≡ v
 named-capitalised Argon2d = refl
 named-capitalised Argon2i = refl
@@ -48,7 +48,7 @@ named-name name v (inr e) = ap named e ∙ named-capitalised v
 name_unique : (name : List ℕ) (v w : Variant) → IsName name v → IsName name w → v ≡ w
 name_unique name v w a b = sym (named-name name v a) ∙ named-name name w b
 
--- the version whose number is written so
+-- the version that a written number stands for
 abbrev numbered : List ℕ → Version
 numbered number = if get_or number 1 0 == 54 then Version10 else Version13
 
@@ -67,7 +67,7 @@ abbrev record_of : Variant → Version → ℕ → ℕ → ℕ → List ℕ → 
 record_of variant version mem_cost time_cost parallelism salt hash =
     record { variant = variant; version = version; mem_cost = mem_cost; time_cost = time_cost; parallelism = parallelism; salt = salt; hash = hash }
 
--- decoded values that agree in every field are the same
+-- decoded values that agree in every field are equal
 same_value : (d e : Spelled) → d.variant ≡ e.variant → d.version ≡ e.version → d.mem_cost ≡ e.mem_cost → d.time_cost ≡ e.time_cost
     → d.parallelism ≡ e.parallelism → d.salt ≡ e.salt → d.hash ≡ e.hash → d ≡ e
 same_value d e variant version mem_cost time_cost parallelism salt hash =
@@ -97,30 +97,30 @@ spells_one text d e s t =
 abbrev marks : List ℕ → ℕ
 marks text = count_by (λ b. b == 36) text
 
--- a string that lacks `$` has none of them
+-- if no byte of a string is `$`, the string's count of `$` is 0
 marks_none : (text : List ℕ) → Lacks 36 text → marks text ≡ 0
 marks_none [] lacks = refl
 marks_none (b ∷ text) lacks = rw (sum_by-cons (λ x. cond (x == 36) 1 0) b text, ne_eqb b 36 lacks.0, zero-add) (marks_none text lacks.1)
 
--- four `$` plus those of a version part are four or five, if the version's number has none
+-- 4 plus the count of `$` in a version part is 4 or 5, if the version's number has no `$`
 version_marks : (version : Option (List ℕ)) → IfSome version (Lacks 36) → (4 + marks (version_part version) ≡ 4) ⊎ (4 + marks (version_part version) ≡ 5)
 version_marks None lacks = inl refl
 version_marks (Some number) lacks =
     let none = marks_none number lacks in
     inr (rw (sum_by-append (λ x. cond (x == 36) 1 0) (codes "$v=") number, none) refl)
 
--- what stands behind the first `$`
+-- the string of some pieces after its first `$`
 abbrev behind : Pieces → List ℕ
 behind p =
     p.name ++ version_part p.version ++ codes "$m=" ++ p.memory ++ codes ",t=" ++ p.time ++ codes ",p=" ++ p.lanes
     ++ codes "$" ++ p.salt ++ codes "$" ++ p.hash
 
--- the string of some pieces is a `$` and what stands behind it
+-- the string of the pieces p is a `$` and then `behind p`
 joined-behind : (p : Pieces) → text_of_pieces p ≡ 36 ∷ behind p
 unfolding text_of_pieces
 joined-behind p = refl
 
--- the string of clean pieces holds four `$` and those of its version part
+-- the string of clean pieces without `$` in memory, time and hash has 4 `$` plus those of its version part
 marks-joined : (p : Pieces) → IsClean p → Lacks 36 p.memory → Lacks 36 p.time → Lacks 36 p.hash → marks (text_of_pieces p) ≡ 4 + marks (version_part p.version)
 unfolding text_of_pieces
 marks-joined p clean memory time hash =
@@ -147,7 +147,7 @@ head_has_items text (p, d, cut, head) =
       marks = rw count (version_marks p.version clean.version);
     }
 
--- ---- what an encoded hash decodes to, and the same string in other words
+-- ---- what an encoded hash decodes to, and its string as items joined by `$`
 
 -- the decimal of a number below 2 ^ 32 decodes to that number
 decimal_spells : (n : ℕ) → n < 2 ^ 32 → IsNumber (decimal n) n
@@ -155,7 +155,7 @@ decimal_spells n fits =
     let numeral = decimal_is_IsNumeral n (omega arith) in
     record { sign = []; digits = decimal n; whole = refl; plus = inl refl; decimal = numeral.0; value = numeral.1; fits = fits }
 
--- the pieces of an encoded hash
+-- the pieces of a value's encoded hash, as they are written
 abbrev pub written_pieces : Spelled → Pieces
 written_pieces d = record {
   name = lowercase_name d.variant;
@@ -167,7 +167,7 @@ written_pieces d = record {
   hash = base64 d.hash;
 }
 
--- the seven parts with the written marks between them are the string of these pieces
+-- seven parts, joined with the format's marks, are the string of the pieces that consist of these parts
 layout-joined : (name version memory time lanes salt hash : List ℕ)
     → codes "$" ++ name ++ codes "$v=" ++ version ++ codes "$m=" ++ memory ++ codes ",t=" ++ time ++ codes ",p=" ++ lanes ++ codes "$" ++ salt ++
     codes "$" ++ hash
@@ -197,13 +197,13 @@ spells_own_value d fits = record {
   hash = record { encoded = refl; bytes_fit = fits.hash };
 }
 
--- ---- the same in other words
+-- ---- the encoded hash as items joined by `$`, and the example
 
 -- appending a rest to three items joined by `,` gives the items, each `,` and the rest, appended one by one
 costs-joined : (m t p rest : List ℕ) → join_with_byte 44 (m ∷ t ∷ p ∷ []) ++ rest ≡ m ++ 44 ∷ (t ++ 44 ∷ (p ++ rest))
 costs-joined m t p rest = rw (append_assoc m (44 ∷ (t ++ 44 ∷ p)) rest, append_assoc t (44 ∷ p) rest) refl
 
--- the seven parts with the written marks between them are the items joined by `$`
+-- seven parts, joined with the format's marks, are the items made of these parts, joined by `$`
 items-joined : (name version memory time lanes salt hash : List ℕ)
     → codes "$" ++ name ++ codes "$v=" ++ version ++ codes "$m=" ++ memory ++ codes ",t=" ++ time ++ codes ",p=" ++ lanes ++ codes "$" ++ salt ++
     codes "$" ++ hash
@@ -218,7 +218,7 @@ unfolding text_of
 is_joined_items d = items-joined (lowercase_name d.variant) (version_text d.version) (decimal d.mem_cost) (decimal d.time_cost)
     (decimal d.parallelism) (base64 d.salt) (base64 d.hash)
 
--- the encoded hash of the example value is the stated one
+-- the encoded hash of the example value is the string that `WritesExample` states
 pub writes_example : WritesExample
 unfolding text_of digits encode_symbols
 writes_example = refl

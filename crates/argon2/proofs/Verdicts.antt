@@ -27,7 +27,7 @@ use Rattle.argon2.specs.Theorems.Texts.{HashedTextVerifies}
 use Rattle.argon2.proofs.StoredHashes.{is_stored, verdict-same}
 use Rattle.argon2.proofs.Texts.{spells_own_value}
 
--- ---- what a comparison and a computed tag say of a hash
+-- ---- comparisons of a hash with a tag, verdicts, and the bytes of a tag
 
 -- ---- comparing
 
@@ -49,12 +49,12 @@ no_difference d (x ∷ xs) (y ∷ ys) h e =
     let same : x ≡ y = equal_by_xor x y (omega (arith, right, r.0)) in
     (omega (arith, left, r.0), ap (λ z. z ∷ xs) same ∙ ap (λ zs. y ∷ zs) r.1)
 
--- a list has no difference from itself
+-- the difference of a list from itself is 0
 difference-same : (xs : List ℕ) → difference_of xs xs ≡ 0
 difference-same [] = refl
 difference-same (x ∷ xs) = ap (λ n. fold (λ difference (a, b). bit_or difference (bit_xor a b)) (bit_or 0 n) (zip xs xs)) (xor_self x) ∙ difference-same xs
 
--- two equally long lists have difference 0 just where they are equal
+-- the difference of two equally long lists is 0 exactly if the lists are equal
 pub difference-zero : (xs ys : List ℕ) → length xs ≡ length ys → (difference_of xs ys ≡ 0) ↔ (xs ≡ ys)
 difference-zero xs ys h = ((λ e. (no_difference 0 xs ys h e).1), (λ e. ap (λ zs. difference_of xs zs) (sym e) ∙ difference-same xs))
 
@@ -65,13 +65,13 @@ none_is : {A : Type 0} (o : Option A) → IsNone o → o ≡ None
 none_is None h = refl
 none_is (Some x) h = absurd (let e : true ≡ false = h in cc)
 
--- the field for the length of a hash does not count
+-- the configuration's `hash_length` field does not change the tag
 pub tag_of-hash_length : (pwd salt : List ℕ) (config : Config) (n len : ℕ)
     → tag_of pwd salt (record config { hash_length = n }) len ≡ tag_of pwd salt config len
 unfolding tag_of setting_of prehash_of
 tag_of-hash_length pwd salt config n len = refl
 
--- the field for the length of a hash does not count for its verdict
+-- a verdict with `hash_length` set to the hash's length is also a verdict with the unchanged configuration
 pub verdict_of_length : (pwd salt hash : List ℕ) (config : Config) (workers : Bool) (answer : Result Bool Error) →
     IsVerdict pwd salt hash (record config { hash_length = length hash }) workers answer → IsVerdict pwd salt hash config workers answer
 unfolding table_error
@@ -89,19 +89,19 @@ pub length_is_the_hash : LengthIsTheHash
 unfolding table_error
 length_is_the_hash pwd salt config field len = (refl, tag_of-hash_length pwd salt config field len)
 
--- a tag has the length that is asked for
+-- the tag for length len has length len
 pub length-tag_of : (pwd salt : List ℕ) (config : Config) (len : ℕ) → length (tag_of pwd salt config len) ≡ len
 unfolding tag_of tag_from
 length-tag_of pwd salt config len = length-hprime len _
 
--- where nothing is rejected and the tag is the expected one, the answer is true or a resource error
+-- if the settings table rejects nothing and the tag is as expected, the answer is true or a resource error
 accepted_verdict : (tag expected : List ℕ) (refusal : Option Error) (workers : Bool) (answer : Result Bool Error) → refusal ≡ None → tag ≡ expected →
     IsOutcome refusal workers (λ same. IsTrue same ↔ (tag ≡ expected)) answer → MatchResult answer (λ same. IsTrue same) (IsResourceError workers)
 accepted_verdict tag expected None workers (Ok same) none e h = h.1 e
 accepted_verdict tag expected None workers (Err error) none e h = h
 accepted_verdict tag expected (Some r) workers answer none e h = absurd (cc)
 
--- a tag is as long as asked for; with accepted settings, it verifies or meets a resource error
+-- the tag for length len has length len; with accepted settings, its verdict is true or a resource error
 pub own_tag_verifies : OwnTagVerifies
 own_tag_verifies pwd salt config len =
     let tag = tag_of pwd salt config len in
@@ -114,11 +114,11 @@ own_tag_verifies pwd salt config len =
 
 -- ---- hashes are bytes
 
--- the empty list is bytes
+-- the empty list is a list of bytes
 none : IsBytes []
 none i = omega arith
 
--- a number below 256 in front of bytes gives bytes
+-- a number below 256 in front of a list of bytes gives a list of bytes
 one_more : (x : ℕ) (xs : List ℕ) → x < 256 → IsBytes xs → IsBytes (x ∷ xs)
 one_more x xs here rest zero = here
 one_more x xs here rest (suc i) = rest i
@@ -128,18 +128,18 @@ byte_fits : (i n : ℕ) → byte_at i n < 256
 byte_fits zero n = omega arith
 byte_fits (suc i) n = omega arith
 
--- the k bytes of a number from byte i on, low first, are bytes
+-- the k bytes of n from byte i on, low byte first, are a list of bytes
 number_is_bytes : (i k n : ℕ) → IsBytes (bytes_low_first i k n)
 number_is_bytes i zero n = none
 number_is_bytes i (suc k) n = one_more (byte_at i n) (bytes_low_first (suc i) k n) (byte_fits i n) (number_is_bytes (suc i) k n)
 
--- words written out one behind the other are bytes
+-- the bytes of a list of words, word after word, are a list of bytes
 words_are_bytes : (words : List ℕ) → IsBytes (bytes_of words)
 unfolding bytes_of
 words_are_bytes [] = none
 words_are_bytes (w ∷ words) = both_bytes (to_le_bytes w64 w) (bytes_of words) (number_is_bytes 0 8 w) (words_are_bytes words)
 
--- a BLAKE2b hash of any length is bytes
+-- a BLAKE2b hash of any length is a list of bytes
 blake2b_is_bytes : (nn : ℕ) (message : List ℕ) → IsBytes (blake2b nn message)
 unfolding blake2b
 blake2b_is_bytes nn message =
@@ -147,7 +147,7 @@ blake2b_is_bytes nn message =
     let state = compress_f before (message_words message (last_block message)) (length message) true in
     take_bytes nn (bytes_of state) (words_are_bytes state)
 
--- a chain of hashes, of any length, is bytes
+-- a hash chain with any n and any last length is a list of bytes
 hash_chain_is_bytes : (n last : ℕ) (x : List ℕ) → IsBytes (hash_chain n last x)
 unfolding hash_chain
 hash_chain_is_bytes zero last x = blake2b_is_bytes last x
@@ -155,20 +155,20 @@ hash_chain_is_bytes (suc n) last x =
     let v = blake2b 64 x in
     both_bytes (take 32 v) (hash_chain n last v) (take_bytes 32 v (blake2b_is_bytes 64 x)) (hash_chain_is_bytes n last v)
 
--- an H' hash of any length is bytes
+-- the output of H' for any length is a list of bytes
 hprime_is_bytes : (len : ℕ) (message : List ℕ) → IsBytes (hprime len message)
 hprime_is_bytes len message =
     let r = chain_length len in
     rw (hprime-hash_chain len message) (hash_chain_is_bytes r (len - 32 * r) (to_le_bytes w32 len ++ message))
 
--- a tag of any length is bytes
+-- a tag of any length is a list of bytes
 pub tag_is_bytes : (pwd salt : List ℕ) (config : Config) (len : ℕ) → IsBytes (tag_of pwd salt config len)
 unfolding tag_of tag_from
 tag_is_bytes pwd salt config len = hprime_is_bytes len _
 
 -- ---- an encoded hash verifies
 
--- the encoded hash of an accepted tag decodes to a value that verifies with the same inputs
+-- a tag's encoded hash, with accepted settings, decodes to a value whose verdict is true or a resource error
 pub hashed_text_verifies : HashedTextVerifies
 hashed_text_verifies pwd salt config len input accepted =
     let tag = tag_of pwd salt config len in

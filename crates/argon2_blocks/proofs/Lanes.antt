@@ -39,7 +39,7 @@ one_lane x y =
     let f : bit_and y (2 ^ 32 - 1) ≡ y % 2 ^ 32 = and_mask y 32 in
     rw (e, f) (sum_mod x y ((x % 2 ^ 32) * (y % 2 ^ 32)))
 
--- the same in each lane of two vectors
+-- the sum of GB of two vectors of n words, computed step by step on vectors, is the sum of GB in each lane
 pub all_lanes : (n : ℕ) (xs ys : List ℕ) → length xs ≡ n → length ys ≡ n →
     zip2 plus (zip2 plus xs ys)
     (zip2 plus (zip2 times (zip2 bit_and xs (replicate n (2 ^ 32 - 1))) (zip2 bit_and ys (replicate n (2 ^ 32 - 1))))
@@ -50,15 +50,15 @@ all_lanes n (x ∷ xs) [] h k = absurd (omega arith)
 all_lanes zero (x ∷ xs) (y ∷ ys) h k = absurd (omega arith)
 all_lanes (suc n) (x ∷ xs) (y ∷ ys) h k = cons_same _ _ _ _ (one_lane x y) (all_lanes n xs ys (omega arith) (omega arith))
 
--- ---- words that change their places among vectors
+-- ---- words that move between vectors
 
 -- ---- lists of a known length, element by element
 
--- what holds of the list that is picked element by element from xs holds of xs
+-- if xs has n elements and P holds of the list of elements 0 to n - 1 of xs, P holds of xs
 pub by_elements : {A : Type 0} (d : A) (n : ℕ) (P : List A → Type 0) (xs : List A) → length xs ≡ n → P (pick_l d xs (range_with_len 0 n)) → P xs
 by_elements d n P xs l p = subst P (pick_l_whole d xs n l) p
 
--- what holds of each number below 4
+-- if P holds of 0, 1, 2 and 3, P holds of each number below 4
 pub each_of_4 : (P : ℕ → Type 0) → P 0 → P 1 → P 2 → P 3 → (i : ℕ) → i < 4 → P i
 each_of_4 P p0 p1 p2 p3 zero h = p0
 each_of_4 P p0 p1 p2 p3 (suc zero) h = p1
@@ -66,7 +66,7 @@ each_of_4 P p0 p1 p2 p3 (suc (suc zero)) h = p2
 each_of_4 P p0 p1 p2 p3 (suc (suc (suc zero))) h = p3
 each_of_4 P p0 p1 p2 p3 (suc (suc (suc (suc i)))) h = absurd (omega arith)
 
--- what holds of each number below n, and of each such number plus n, holds of each number below 2 * n
+-- if P holds of i and of i + n for each i below n, P holds of each number below 2 * n
 by_halves : (P : ℕ → Type 0) (n : ℕ) → ((i : ℕ) → i < n → P i) → ((i : ℕ) → i < n → P (i + n)) → (i : ℕ) → i < n + n → P i
 by_halves P n low high i h =
     elim (leb_tells (suc i) n) [
@@ -74,22 +74,22 @@ by_halves P n low high i h =
       | inr w ↦ let e : i - n + n ≡ i = omega arith in subst P e (high (i - n) (omega arith))
     ]
 
--- what holds of each number below 8
+-- if P holds of 0, 1, .., 7, P holds of each number below 8
 pub each_of_8 : (P : ℕ → Type 0) → P 0 → P 1 → P 2 → P 3 → P 4 → P 5 → P 6 → P 7 → (i : ℕ) → i < 8 → P i
 each_of_8 P p0 p1 p2 p3 p4 p5 p6 p7 = by_halves P 4 (each_of_4 P p0 p1 p2 p3) (each_of_4 (λ i. P (i + 4)) p4 p5 p6 p7)
 
--- what holds of each number below 16
+-- if P holds of 0, 1, .., 15, P holds of each number below 16
 pub each_of_16 : (P : ℕ → Type 0) → P 0 → P 1 → P 2 → P 3 → P 4 → P 5 → P 6 → P 7 → P 8 → P 9 → P 10 → P 11 → P 12 → P 13 → P 14 → P 15 → (i : ℕ) → i < 16 → P i
 each_of_16 P p0 p1 p2 p3 p4 p5 p6 p7 p8 p9 p10 p11 p12 p13 p14 p15 =
     by_halves P 8 (each_of_8 P p0 p1 p2 p3 p4 p5 p6 p7) (each_of_8 (λ i. P (i + 8)) p8 p9 p10 p11 p12 p13 p14 p15)
 
--- the elements of two lists of eight
+-- the eight elements of x and then the eight elements of y are x ++ y
 pub two_eights : (x y : List ℕ) → length x ≡ 8 → length y ≡ 8 → pick_l 0 x (range_with_len 0 8) ++ pick_l 0 y (range_with_len 0 8) ≡ x ++ y
 two_eights x y l m = ap (λ t. t ++ pick_l 0 y (range_with_len 0 8)) (pick_l_whole 0 x 8 l) ∙ ap (λ t. x ++ t) (pick_l_whole 0 y 8 m)
 
--- ---- turns to the right of the words of a vector
+-- ---- right rotations of the words of a vector
 
--- words rotated by two shifts
+-- the OR of a right shift by `bits` and a left shift by 64 - bits is the right rotation by `bits`, for each of n words
 pub by_shifts : (bits n : ℕ) (xs : List ℕ) → 0 < bits → bits < 64 → length xs ≡ n →
     zip2 bit_or (zip2 (λ x k. x / 2 ^ k) xs (replicate n bits)) (zip2 (λ x k. x * 2 ^ k % 2 ^ 64) xs (replicate n (64 - bits)))
     ≡ map (λ x. rotate_right w64 x bits) xs
@@ -100,42 +100,42 @@ by_shifts bits (suc n) (x ∷ xs) some lt l =
     let f : (64 - bits) % 64 ≡ 64 - bits = omega arith in
     cons_same _ _ _ _ (rw (e, f) refl) (by_shifts bits n xs some lt (omega arith))
 
--- ---- a turn as a sum
+-- ---- a rotation as a sum
 
--- x rotated by r bits, where r + m is 64: the lower bits go up, and the others come down
-turn : (r m x low : ℕ) → x * 2 ^ m % 2 ^ 64 ≡ low * 2 ^ m → x / 2 ^ r < 2 ^ m →
+-- if x * 2 ^ m modulo 2 ^ 64 is low * 2 ^ m, and x / 2 ^ r is below 2 ^ m, the OR of the two is their sum
+or_is_sum : (r m x low : ℕ) → x * 2 ^ m % 2 ^ 64 ≡ low * 2 ^ m → x / 2 ^ r < 2 ^ m →
     bit_or (x / 2 ^ r) (x * 2 ^ m % 2 ^ 64) ≡ low * 2 ^ m + x / 2 ^ r
-turn r m x low up fits = ap (λ v. bit_or (x / 2 ^ r) v) up ∙ or_shifted_r low m (x / 2 ^ r) fits
+or_is_sum r m x low up fits = ap (λ v. bit_or (x / 2 ^ r) v) up ∙ or_shifted_r low m (x / 2 ^ r) fits
 
-turn32 : (x : ℕ) → x < 2 ^ 64 → rotate_right w64 x 32 ≡ (x % 2 ^ 32) * 2 ^ 32 + x / 2 ^ 32
-turn32 x h = turn 32 32 x (x % 2 ^ 32) (omega arith) (omega arith)
+rotation32 : (x : ℕ) → x < 2 ^ 64 → rotate_right w64 x 32 ≡ (x % 2 ^ 32) * 2 ^ 32 + x / 2 ^ 32
+rotation32 x h = or_is_sum 32 32 x (x % 2 ^ 32) (omega arith) (omega arith)
 
 -- a rotation by 32 bits and then a rotation by 56 bits are a rotation by 24 bits
-pub turns24 : (x : ℕ) → x < 2 ^ 64 → rotate_right w64 (rotate_right w64 x 32) 56 ≡ rotate_right w64 x 24
-turns24 x h =
+pub rotations24 : (x : ℕ) → x < 2 ^ 64 → rotate_right w64 (rotate_right w64 x 32) 56 ≡ rotate_right w64 x 24
+rotations24 x h =
     let y = (x % 2 ^ 32) * 2 ^ 32 + x / 2 ^ 32 in
     let e : (y % 2 ^ 56) * 2 ^ 8 + y / 2 ^ 56 ≡ (x % 2 ^ 24) * 2 ^ 40 + x / 2 ^ 24 = omega arith in
-    ap (λ v. rotate_right w64 v 56) (turn32 x h)
-    ∙ (turn 56 8 y (y % 2 ^ 56) (omega arith) (omega arith) ∙ (e ∙ sym (turn 24 40 x (x % 2 ^ 24) (omega arith) (omega arith))))
+    ap (λ v. rotate_right w64 v 56) (rotation32 x h)
+    ∙ (or_is_sum 56 8 y (y % 2 ^ 56) (omega arith) (omega arith) ∙ (e ∙ sym (or_is_sum 24 40 x (x % 2 ^ 24) (omega arith) (omega arith))))
 
 -- a rotation by 32 bits and then a rotation by 48 bits are a rotation by 16 bits
-pub turns16 : (x : ℕ) → x < 2 ^ 64 → rotate_right w64 (rotate_right w64 x 32) 48 ≡ rotate_right w64 x 16
-turns16 x h =
+pub rotations16 : (x : ℕ) → x < 2 ^ 64 → rotate_right w64 (rotate_right w64 x 32) 48 ≡ rotate_right w64 x 16
+rotations16 x h =
     let y = (x % 2 ^ 32) * 2 ^ 32 + x / 2 ^ 32 in
     let e : (y % 2 ^ 48) * 2 ^ 16 + y / 2 ^ 48 ≡ (x % 2 ^ 16) * 2 ^ 48 + x / 2 ^ 16 = omega arith in
-    ap (λ v. rotate_right w64 v 48) (turn32 x h)
-    ∙ (turn 48 16 y (y % 2 ^ 48) (omega arith) (omega arith) ∙ (e ∙ sym (turn 16 48 x (x % 2 ^ 16) (omega arith) (omega arith))))
+    ap (λ v. rotate_right w64 v 48) (rotation32 x h)
+    ∙ (or_is_sum 48 16 y (y % 2 ^ 48) (omega arith) (omega arith) ∙ (e ∙ sym (or_is_sum 16 48 x (x % 2 ^ 16) (omega arith) (omega arith))))
 
--- if rotations of a word by 32 bits and by `next` bits equal one rotation by `all` bits, they do in each lane
+-- if rotations by 32 and then `next` bits rotate every word by `all` bits, the two rotations rotate xs by `all` bits
 pub by_two : (next all : ℕ) → ((x : ℕ) → x < 2 ^ 64 → rotate_right w64 (rotate_right w64 x 32) next ≡ rotate_right w64 x all) →
     (xs ys zs : List ℕ) → Each1 (λ a. a < 2 ^ 64) xs → ys ≡ map (λ x. rotate_right w64 x 32) xs →
     zs ≡ map (λ x. rotate_right w64 x next) ys → zs ≡ map (λ x. rotate_right w64 x all) xs
 by_two next all e [] ys zs h a b = rw (b, a) refl
 by_two next all e (x ∷ xs) ys zs h a b = rw (b, a) (cons_same _ _ _ _ (e x h.0) (by_two next all e xs _ _ h.1 refl refl))
 
--- ---- halves that change places
+-- ---- swapping the halves of words
 
--- the number that the bytes of x make is x
+-- if x is below 256 ^ n, the number that the n bytes of x make is x
 number_of_bytes : (n x : ℕ) → x < 256 ^ n → number_l 256 (digits_l 256 n x) ≡ x
 number_of_bytes zero x h = omega arith
 number_of_bytes (suc n) x h =
@@ -143,7 +143,7 @@ number_of_bytes (suc n) x h =
     let r : number_l 256 (digits_l 256 n (x / 256)) ≡ x / 256 = number_of_bytes n (x / 256) (omega arith) in
     rw r (omega arith)
 
--- the halves of a word, and the same swapped
+-- the halves of a word: the lower first, and (`swapped`) the upper first
 abbrev halves : ℕ → List ℕ
 halves x = x % 2 ^ 32 ∷ x / 2 ^ 32 ∷ []
 
@@ -154,7 +154,7 @@ abbrev twos : ℕ → ℕ
 twos zero = zero
 twos (suc n) = suc (suc (twos n))
 
--- a number that grows by a factor of 2 ^ 64 per 64-bit word fits the bits of the words
+-- if f grows by a factor of 2 ^ 64 per 64-bit word, f of n words is below (2 ^ 64) ^ n
 fits_words : (f : List ℕ → ℕ) → f [] ≡ 0 → ((x : ℕ) (xs : List ℕ) → x < 2 ^ 64 → f (x ∷ xs) < 2 ^ 64 + 2 ^ 64 * f xs) →
     (xs : List ℕ) → Each1 (λ a. a < 2 ^ 64) xs → f xs < (2 ^ 64) ^ length xs
 fits_words f none more [] h = rw none (omega arith)
@@ -164,7 +164,7 @@ fits_words f none more (x ∷ xs) h =
     let s = more x xs h.0 in
     omega arith
 
--- the halves of the number that words make are those of the words, one after another
+-- the 32-bit digits of the number that 64-bit words make are the halves of the words, one word after another
 halves_n : (xs : List ℕ) → Each1 (λ a. a < 2 ^ 64) xs → digits_l (2 ^ 32) (twos (length xs)) (number_l (2 ^ 64) xs) ≡ flat_map halves xs
 halves_n [] h = refl
 halves_n (x ∷ xs) h =
@@ -175,15 +175,15 @@ halves_n (x ∷ xs) h =
     let rest : (x + 2 ^ 64 * m) / 2 ^ 32 / 2 ^ 32 ≡ m = omega arith in
     cons_same _ _ _ _ low (cons_same _ _ _ _ high (ap (λ v. digits_l (2 ^ 32) (twos (length xs)) v) rest ∙ halves_n xs h.1))
 
--- the words of the number that swapped halves make are the words turned by 32 bits
-turned_n : (xs : List ℕ) → Each1 (λ a. a < 2 ^ 64) xs → digits_l (2 ^ 64) (length xs) (number_l (2 ^ 32) (flat_map swapped xs)) ≡ map (λ x. rotate_right w64 x 32) xs
-turned_n [] h = refl
-turned_n (x ∷ xs) h =
+-- the 64-bit digits of the number that the words' swapped halves make are the words rotated right by 32 bits
+rotated_n : (xs : List ℕ) → Each1 (λ a. a < 2 ^ 64) xs → digits_l (2 ^ 64) (length xs) (number_l (2 ^ 32) (flat_map swapped xs)) ≡ map (λ x. rotate_right w64 x 32) xs
+rotated_n [] h = refl
+rotated_n (x ∷ xs) h =
     let m = number_l (2 ^ 32) (flat_map swapped xs) in
     let s : x < 2 ^ 64 = h.0 in
     let low : (x / 2 ^ 32 + 2 ^ 32 * (x % 2 ^ 32 + 2 ^ 32 * m)) % 2 ^ 64 ≡ (x % 2 ^ 32) * 2 ^ 32 + x / 2 ^ 32 = omega arith in
     let rest : (x / 2 ^ 32 + 2 ^ 32 * (x % 2 ^ 32 + 2 ^ 32 * m)) / 2 ^ 64 ≡ m = omega arith in
-    cons_same _ _ _ _ (low ∙ sym (turn32 x s)) (ap (λ v. digits_l (2 ^ 64) (length xs) v) rest ∙ turned_n xs h.1)
+    cons_same _ _ _ _ (low ∙ sym (rotation32 x s)) (ap (λ v. digits_l (2 ^ 64) (length xs) v) rest ∙ rotated_n xs h.1)
 
 abbrev swapped_places : List ℕ
 swapped_places = 1 ∷ 0 ∷ 3 ∷ 2 ∷ 5 ∷ 4 ∷ 7 ∷ 6 ∷ 9 ∷ 8 ∷ 11 ∷ 10 ∷ 13 ∷ 12 ∷ 15 ∷ 14 ∷ []
@@ -201,7 +201,7 @@ by32 xs l h =
     ∙ (ap (λ v. pick_l 0 v swapped_places) (rw l at (halves_n xs h)) ∙ picks) in
     let fit = rw l at (fits_words (λ xs. number_l (2 ^ 32) (flat_map swapped xs)) refl (λ x xs h. omega arith) xs h) in
     ap (λ v. digits_l (2 ^ 64) 8 (number_l 256 (digits_l 256 64 (number_l (2 ^ 32) v)))) all
-    ∙ (ap (λ v. digits_l (2 ^ 64) 8 v) (number_of_bytes 64 _ fit) ∙ rw l at (turned_n xs h))
+    ∙ (ap (λ v. digits_l (2 ^ 64) 8 v) (number_of_bytes 64 _ fit) ∙ rw l at (rotated_n xs h))
 
 -- ---- a mix of four vectors is the mix of the four words in each lane
 
@@ -209,14 +209,14 @@ by32 xs l h =
 abbrev pub words : ℕ → List ℕ → List ℕ → List ℕ → List ℕ → Four
 words i a b c d = record { a = slice_index a i; b = slice_index b i; c = slice_index c i; d = slice_index d i }
 
--- the vectors after half a mix
+-- the two steps of half a mix: a sum, and an XOR with a rotation
 abbrev pub next_a : List ℕ → List ℕ → List ℕ
 next_a a b = zip2 add_product a b
 
 abbrev pub next_d : ℕ → List ℕ → List ℕ → List ℕ
 next_d far d a1 = map (λ x. rotate_right w64 x far) (zip2 bit_xor d a1)
 
--- half of GB on the words in lane i of four vectors is what the vectors after it hold in lane i
+-- half of GB on the words in lane i of four vectors is the words in lane i of the vectors after half a mix
 pub half_lane : (far near i : ℕ) (a b c d : List ℕ) → i < length a → i < length b → i < length c → i < length (next_d far d (next_a a b)) →
     half_gb far near (words i a b c d)
     ≡ words i (next_a a b) (next_d near b (next_a c (next_d far d (next_a a b)))) (next_a c (next_d far d (next_a a b))) (next_d far d (next_a a b))
@@ -229,7 +229,7 @@ half_lane far near zero (x ∷ a) (y ∷ b) (z ∷ c) (w ∷ d) ha hb hc hd = re
 half_lane far near (suc i) (x ∷ a) (y ∷ b) (z ∷ c) (w ∷ d) ha hb hc hd =
     half_lane far near i a b c d (omega arith) (omega arith) (omega arith) (omega arith)
 
--- the same, where the vectors after half of GB have names
+-- if a1, b1, c1, d1 are a, b, c, d after half a mix, half of GB on lane i of a, b, c, d is lane i of a1, b1, c1, d1
 pub half_at : (far near i : ℕ) (a b c d a1 b1 c1 d1 : List ℕ) →
     a1 ≡ next_a a b → d1 ≡ next_d far d a1 → c1 ≡ next_a c d1 → b1 ≡ next_d near b c1 →
     i < 8 → length a ≡ 8 → length b ≡ 8 → length c ≡ 8 → length d1 ≡ 8 →
@@ -251,11 +251,12 @@ mix_at i a b c d a1 b1 c1 d1 a2 b2 c2 d2 ea ed ec eb ea2 ed2 ec2 eb2 h la lb lc 
 
 -- ---- half a round and a whole one, in each lane
 
--- the words in lane i of four vectors
+-- the words in lane i of the vectors of v with the numbers a, b, c and d
 abbrev pub column_in_lane : ℕ → List (List ℕ) → ℕ → ℕ → ℕ → ℕ → Four
 column_in_lane i v a b c d = words i (slice_index_or v a []) (slice_index_or v b []) (slice_index_or v c []) (slice_index_or v d [])
 
--- the vectors after two mixes, in lane i
+-- if lane i of a0 to d0 and of a1 to d1 is GB on the even and on the odd vectors of v, lane i of all eight is
+-- `two_mixes` of lane i of v
 pub two_mixes_at : (i : ℕ) (v : List (List ℕ)) (a0 a1 b0 b1 c0 c1 d0 d1 : List ℕ) → length v ≡ 8 →
     mix_gb (column_in_lane i v 0 2 4 6) ≡ words i a0 b0 c0 d0 →
     mix_gb (column_in_lane i v 1 3 5 7) ≡ words i a1 b1 c1 d1 →
@@ -298,28 +299,28 @@ half_round_at i v p q lv lp lq ep eq =
     lane_by_twos i p q lp lq ∙ (ap (λ w. by_twos 0 w (lane i q)) ep
     ∙ (ap (λ w. by_twos 0 (two_mixes (lane i (firsts v))) w) eq ∙ half_round_by_twos i v lv))
 
--- ---- a round: its second half is the first half on words that are moved before it, and moved back after it
+-- ---- a round: the second half is the first half on words that are moved before, and moved back after
 
--- the places that the diagonals come from, as columns, and those that they go back to
+-- the indices that words come from: where diagonals become columns, and where these columns become diagonals again
 abbrev pub places_across : List ℕ
 places_across = 0 ∷ 1 ∷ 2 ∷ 3 ∷ 5 ∷ 6 ∷ 7 ∷ 4 ∷ 10 ∷ 11 ∷ 8 ∷ 9 ∷ 15 ∷ 12 ∷ 13 ∷ 14 ∷ []
 
 abbrev pub places_back : List ℕ
 places_back = 0 ∷ 1 ∷ 2 ∷ 3 ∷ 7 ∷ 4 ∷ 5 ∷ 6 ∷ 10 ∷ 11 ∷ 8 ∷ 9 ∷ 13 ∷ 14 ∷ 15 ∷ 12 ∷ []
 
--- P is half a round, and half a round on the diagonals as columns, which then go back
+-- P is half a round, and then half a round on the diagonals, which stand as columns and are then moved back
 permute_halves : (w : List ℕ) → length w ≡ 16 → permute_p w ≡ pick_l 0 (half_round (pick_l 0 (half_round w) places_across)) places_back
 unfolding permute_p
 permute_halves w l = by_elements 0 16 (λ w. permute_p w ≡ pick_l 0 (half_round (pick_l 0 (half_round w) places_across)) places_back) w l refl
 
--- a word of a lane
+-- word i of vector k is word k of lane i
 pub get_lane : (i k : ℕ) (v : List (List ℕ)) → slice_index (slice_index_or v k []) i ≡ slice_index (lane i v) k
 get_lane zero k [] = refl
 get_lane (suc i) k [] = refl
 get_lane i zero (x ∷ v) = refl
 get_lane i (suc k) (x ∷ v) = get_lane i k v
 
--- vectors and the words of a lane change their places alike
+-- lane i of the vectors with the numbers ks is the words of lane i with the numbers ks
 lane_picked : (i : ℕ) (v : List (List ℕ)) (ks : List ℕ) → lane i (pick_l [] v ks) ≡ pick_l 0 (lane i v) ks
 lane_picked i v [] = refl
 lane_picked i v (k ∷ ks) = rw (get_lane i k v) (ap (λ t. slice_index (lane i v) k ∷ t) (lane_picked i v ks))

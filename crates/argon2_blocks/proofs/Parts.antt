@@ -3,7 +3,7 @@ use Rattle.std.proofs.Common.{◌≡◌, ℕ, ◌≤◌, List, [], ◌++◌, len
 use Rattle.std.proofs.lemmas.List.{append-nil, drop_all, take-append-le, take_all}
 use borrow.Rule.Slice.PartMut.{put_mid}
 
--- if zs replaces all elements behind ys, the list ends with zs
+-- if zs replaces rest in ys ++ rest, the result is ys ++ zs
 pub put_rest : {X : Type 0} (a k : ℕ) (ys rest zs : List X) → length ys ≡ a → length rest ≤ k → put_mid a k (ys ++ rest) zs ≡ ys ++ zs
 put_rest a k ys rest zs len few =
     let front : take a (ys ++ rest) ≡ ys = take-append-le a ys rest (omega arith) ∙ take_all a ys (omega arith) in

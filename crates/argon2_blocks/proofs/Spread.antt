@@ -9,11 +9,11 @@ use Rattle.argon2_blocks.proofs.Lanes.{each_of_4, each_of_8, each_of_16, two_eig
 use Rattle.std.specs.Prelude.{slice_index}
 use Rattle.argon2_blocks.specs.Standard.Compression.{permute_p}
 
--- ---- rows and columns that change their places among vectors
+-- ---- rows and columns that move between vectors
 
 -- ---- from vectors to rows, from rows to columns, and back to vectors
 
--- the first, and the second, halves of the vectors i and k
+-- the first halves, and (`high`) the second halves, of the vectors i and k
 abbrev pub low : List (List ℕ) → ℕ → ℕ → List ℕ
 low v i k = low_halves (nth_vector v i) (nth_vector v k)
 
@@ -23,7 +23,7 @@ high v i k = high_halves (nth_vector v i) (nth_vector v k)
 abbrev pub rows_of : List (List ℕ) → List (List ℕ)
 rows_of v = low v 0 2 ∷ low v 4 6 ∷ high v 0 2 ∷ high v 4 6 ∷ low v 1 3 ∷ low v 5 7 ∷ high v 1 3 ∷ high v 5 7 ∷ []
 
--- row j of four that are spread over eight vectors is what vectors 2 * j and 2 * j + 1 held
+-- row j of the four rows that are spread over the vectors `rows_of v` is vectors 2 * j and 2 * j + 1 of v, joined
 pub rows_spread : (v : List (List ℕ)) →
     length (nth_vector v 0) ≡ 8 → length (nth_vector v 1) ≡ 8 → length (nth_vector v 2) ≡ 8 → length (nth_vector v 3) ≡ 8 →
     length (nth_vector v 4) ≡ 8 → length (nth_vector v 5) ≡ 8 → length (nth_vector v 6) ≡ 8 → length (nth_vector v 7) ≡ 8 →
@@ -39,7 +39,7 @@ left_of u v = low u 0 2 ∷ high u 0 2 ∷ low u 1 3 ∷ high u 1 3 ∷ low v 0 
 abbrev pub right_of : List (List ℕ) → List (List ℕ) → List (List ℕ)
 right_of u v = low u 4 6 ∷ high u 4 6 ∷ low u 5 7 ∷ high u 5 7 ∷ low v 4 6 ∷ high v 4 6 ∷ low v 5 7 ∷ high v 5 7 ∷ []
 
--- eight rows that are spread four and four
+-- eight rows: the first four are spread over the vectors u, the last four over the vectors v
 abbrev pub eight_rows : List (List ℕ) → List (List ℕ) → ℕ → List ℕ
 eight_rows u v = four_and_four (spread_row u) (spread_row v)
 
@@ -61,13 +61,13 @@ halves_joined u v =
 abbrev pub eight_columns : List (List ℕ) → List (List ℕ) → ℕ → List ℕ
 eight_columns u v = four_and_four (column (nth_vector u)) (column (nth_vector v))
 
--- vector j of u and vector j of v, joined, are the eight words of the first and then those of the second
+-- vector j of u and vector j of v, joined, are the eight words of vector j of u and then the eight of vector j of v
 joined_row : (u v : List (List ℕ)) → length u ≡ 8 → length v ≡ 8 → Each1 Long u → Each1 Long v → (j : ℕ) → j < 8 →
     nth_vector u j ++ nth_vector v j ≡ pick_l 0 (nth_vector u j) (range_with_len 0 8) ++ pick_l 0 (nth_vector v j) (range_with_len 0 8)
 joined_row u v lu lv eu ev j h =
     sym (two_eights (nth_vector u j) (nth_vector v j) (Each1-get_or Long u j [] (omega arith) eu) (Each1-get_or Long v j [] (omega arith) ev))
 
--- row j of eight columns is vector j of the left four and then vector j of the right four
+-- in the vectors of u and v by turns, row j is row j of the eight columns that u and v hold
 pub rows_joined : (u v : List (List ℕ)) → length u ≡ 8 → length v ≡ 8 → Each1 Long u → Each1 Long v →
     (j : ℕ) → j < 8 → vector_pair (halves_joined u v) j ≡ column (eight_columns u v) j
 rows_joined u v lu lv eu ev j h =
@@ -89,7 +89,7 @@ halves_long u v lu lv eu ev =
 
 -- ---- eight rows, or columns, four by four
 
--- eight lists are those of q if the first four and the last four are
+-- if f gives the lists 0 to 3 of q and g gives the lists 4 to 7, `four_and_four f g` gives all eight lists of q
 pub eight_by_fours : (f g q : ℕ → List ℕ) → ((k : ℕ) → k < 4 → f k ≡ q k) → ((k : ℕ) → k < 4 → g k ≡ q (k + 4)) →
     (k : ℕ) → k < 8 → four_and_four f g k ≡ q k
 eight_by_fours f g q ef eg k h =
@@ -123,7 +123,7 @@ IsMixed v r = (i : ℕ) → i < 8 → lane i r ≡ two_mixes (lane i v)
 abbrev pub word_after : List (List ℕ) → ℕ → ℕ → ℕ
 word_after v k i = slice_index (two_mixes (lane i v)) k
 
--- after two GB in each lane, lane i of vector k is word k of what they make of lane i
+-- if r is v after two GB in each lane, word i of vector k of r is word k of the two GB on lane i of v
 word_by_lane : (v r : List (List ℕ)) → IsMixed v r → (k i : ℕ) → i < 8 → slice_index (nth_vector r k) i ≡ word_after v k i
 word_by_lane v r e k i h = get_lane i k r ∙ ap (λ l. slice_index l k) (e i h)
 
@@ -162,12 +162,12 @@ half_column v r l e k h =
 
 -- ---- a round: half of it on columns, and half on diagonals that stand as columns
 
--- P is half a round, and half a round on the diagonals as columns, which then go back
+-- P is half a round, and then half a round on the diagonals as columns, which then become diagonals again
 permute_halves : (w : List ℕ) → length w ≡ 16 → permute_p w ≡ undo_diagonals (half_round (diagonals (half_round w)))
 unfolding permute_p
 permute_halves w l = by_elements 0 16 (λ w. permute_p w ≡ undo_diagonals (half_round (diagonals (half_round w)))) w l refl
 
--- a is half a round of w, b its diagonals, c half a round of b, d puts them back
+-- if a is half a round of w, b the diagonals of a, c half a round of b, and d undoes the diagonals in c, d is P of w
 round_of_words : (w a b c d : List ℕ) → length w ≡ 16 →
     a ≡ half_round w → b ≡ diagonals a → c ≡ half_round b → d ≡ undo_diagonals c → d ≡ permute_p w
 round_of_words w a b c d l ea eb ec ed = rw (ed, ec, eb, ea) (sym (permute_halves w l))

@@ -1,4 +1,4 @@
--- Blocks by vectors: loaded, permuted and stored.
+-- Blocks that are loaded, permuted and stored as vectors of eight words.
 use Rattle.std.proofs.Common.{◌≡◌, ℕ, zero, suc, ◌<◌, ◌≤◌, ◌+◌, ◌*◌, List, [], ◌∷◌, ◌++◌, length, take, drop, refl, ap, arith, sym, ◌∙◌, bit_xor}
 use Rattle.std.proofs.Common.{length-append, map, append_assoc}
 use Rattle.std.proofs.Math.Seq.{drop-append-add, take-add}
@@ -15,8 +15,8 @@ use Rattle.argon2_blocks.proofs.Lanes.{by_elements}
 
 -- ---- a block as sixteen vectors
 
--- ---- exclusive or
--- the XOR of two lists is the XOR of their words, place by place
+-- ---- the XOR of lists
+-- the XOR of two lists is the two lists combined word by word with `bit_xor`
 xor_zip2 : (xs ys : List ℕ) → xor xs ys ≡ zip2 bit_xor xs ys
 unfolding xor
 xor_zip2 [] ys = refl
@@ -28,7 +28,7 @@ zip2_none : (f : ℕ → ℕ → ℕ) (xs : List ℕ) → zip2 f xs [] ≡ []
 zip2_none f [] = refl
 zip2_none f (x ∷ xs) = refl
 
--- two lists combined word by word are, behind their first i words, the two rests combined
+-- dropping i words of two combined lists equals dropping i words of each list and then combining the lists
 drop_zip2 : (f : ℕ → ℕ → ℕ) (i : ℕ) (xs ys : List ℕ) → drop i (zip2 f xs ys) ≡ zip2 f (drop i xs) (drop i ys)
 drop_zip2 f zero xs ys = refl
 drop_zip2 f (suc i) [] ys = refl
@@ -42,7 +42,7 @@ take_zip2 f (suc i) [] ys = refl
 take_zip2 f (suc i) (x ∷ xs) [] = refl
 take_zip2 f (suc i) (x ∷ xs) (y ∷ ys) = ap (λ l. f x y ∷ l) (take_zip2 f i xs ys)
 
--- n words from place i on of the XOR of two lists are the XOR of those n words of each
+-- the n words from index i on of the XOR of two lists are the XOR of the n words from index i on of each list
 pub chunk_xor : (i n : ℕ) (xs ys : List ℕ) → chunk i n (xor xs ys) ≡ zip2 bit_xor (chunk i n xs) (chunk i n ys)
 chunk_xor i n xs ys =
     ap (λ l. chunk i n l) (xor_zip2 xs ys)
@@ -59,11 +59,11 @@ length_xor (x ∷ xs) (y ∷ ys) e = ap suc (length_xor xs ys (omega arith))
 abbrev pub Long : List ℕ → Type 0
 Long a = length a ≡ 8
 
--- dropping n + m words of two joined lists, where the first list has n, leaves the second without its first m
+-- if xs has n words, dropping n + m words of xs ++ ys is dropping m words of ys
 pub drop_front : (xs ys : List ℕ) (n m k : ℕ) → length xs ≡ n → k ≡ n + m → drop k (xs ++ ys) ≡ drop m ys
 drop_front xs ys n m k e f = ap (λ k. drop k (xs ++ ys)) (f ∙ ap (λ n. n + m) (sym e)) ∙ drop-append-add xs ys m
 
--- vector k is the eight words from place 8 * k on of the joined vectors, which have eight words each
+-- if each vector has eight words, vector k is the eight words from index 8 * k on of the joined vectors
 pub vector_at : (v : List (List ℕ)) (k : ℕ) → Each1 Long v → k < length v → slice_index_or v k [] ≡ chunk (8 * k) 8 (vector_words v)
 vector_at [] k e h = absurd (omega arith)
 vector_at (x ∷ v) zero e h = sym (take_at x (vector_words v) 8 e.0)
@@ -81,7 +81,7 @@ length_joined (x ∷ v) e =
     omega arith
 
 -- ---- one more vector is put
--- o with its first n words replaced by those of t is these and then the rest of o
+-- putting the first n words of t over the first n words of o gives the n words of t and then the rest of o
 put_front : (n : ℕ) (t o : List ℕ) → n ≤ length t → n ≤ length o → put_chunk zero o (take n t) ≡ take n t ++ drop n o
 put_front zero t [] h k = refl
 put_front zero t (y ∷ o) h k = refl
@@ -89,7 +89,7 @@ put_front (suc n) [] o h k = absurd (omega arith)
 put_front (suc n) (x ∷ t) [] h k = absurd (omega arith)
 put_front (suc n) (x ∷ t) (y ∷ o) h k = ap (λ l. x ∷ l) (put_front n t o (omega arith) (omega arith))
 
--- o whose first i words are those of t has the first i + n of t once the next n are put
+-- if the next n words of t are put behind i words of t into o, the result is i + n words of t and the rest of o
 pub put_next : (i n m : ℕ) (t o : List ℕ) → m ≡ i + n → m ≤ length t → m ≤ length o →
     put_chunk i (take i t ++ drop i o) (chunk i n t) ≡ take m t ++ drop m o
 put_next zero n m t o e h k = let z : m ≡ n = omega arith in rw z (put_front n t o (omega arith) (omega arith))
@@ -102,16 +102,16 @@ put_next (suc i) n (suc m) (x ∷ t) (y ∷ o) e h k = ap (λ l. x ∷ l) (put_n
 
 -- ---- vectors that are made one by one
 
--- the eight words that a part of n words begins with, which is read from a block
+-- for n = 8, the first eight of n words from index 8 * k on of w are the chunk of eight words of w at 8 * k
 pub part_read : (k n : ℕ) (w : List ℕ) → n ≡ 8 → take 8 (take n (drop (8 * k) w)) ≡ chunk (8 * k) 8 w
 part_read k n w hn = ap (λ q. take 8 (take q (drop (8 * k) w))) hn ∙ take-take 8 8 (drop (8 * k) w) (omega arith)
 
--- the exclusive or of two parts of eight words that are read from two blocks
+-- if r is the XOR of the eight words at 8 * k of x and of y, r is the eight words at 8 * k of the XOR of x and y
 pub chunk_made : (x y r : List ℕ) (k n m : ℕ) → n ≡ 8 → m ≡ 8 →
     r ≡ zip2 bit_xor (take 8 (take n (drop (8 * k) x))) (take 8 (take m (drop (8 * k) y))) → r ≡ chunk (8 * k) 8 (xor x y)
 chunk_made x y r k n m hn hm e = rw (e, part_read k n x hn, part_read k m y hm) (sym (chunk_xor (8 * k) 8 x y))
 
--- vectors that are the parts of w from the i-th on, joined
+-- if v are the parts of eight words of w from part i to the last, v joined is w without the first 8 * i words
 chunks_joined : (v : List (List ℕ)) (i : ℕ) (w : List ℕ) → length w ≡ 8 * (i + length v) →
     ((k : ℕ) → k < length v → slice_index_or v k [] ≡ chunk (8 * (i + k)) 8 w) → vector_words v ≡ drop (8 * i) w
 chunks_joined [] i w l e = sym (drop_all (8 * i) w (omega arith))
@@ -154,17 +154,17 @@ chunk_at x y k lx ly ex ey h =
     let b : slice_index_or y k [] ≡ chunk (8 * k) 8 (vector_words y) = vector_at y k ey (omega arith) in
     rw (a, b) (sym (chunk_xor (8 * k) 8 (vector_words x) (vector_words y)))
 
--- o whose first k vectors are those of t has the first k + 1 of t once the next is put
+-- if w is k vectors of t and then the rest of o, putting vector k of t gives k + 1 vectors of t and then the rest of o
 put_step : (k : ℕ) (t o w u : List ℕ) → length t ≡ 128 → length o ≡ 128 → k < 16 →
     w ≡ take (8 * k) t ++ drop (8 * k) o → u ≡ chunk (8 * k) 8 t →
     put_chunk (8 * k) w u ≡ take (8 * suc k) t ++ drop (8 * suc k) o
 put_step k t o w u lt lo h e f = rw (e, f) (put_next (8 * k) 8 (8 * suc k) t o (omega arith) (omega arith) (omega arith))
 
--- a block o whose 128 words are replaced by those of t is t
+-- if t and o have 128 words, the first 128 words of t and then o without the first 128 words are t
 put_done : (t o : List ℕ) → length t ≡ 128 → length o ≡ 128 → take 128 t ++ drop 128 o ≡ t
 put_done t o lt lo = rw (take_all 128 t (omega arith), drop_all 128 o (omega arith), append-nil) refl
 
--- eight words that are put into a part of n words, which is borrowed for the write
+-- for n = 8, w with the eight words u put into the borrowed part of n words at 8 * k is w with u put at 8 * k
 pub put_part : (k n : ℕ) (w u : List ℕ) → n ≡ 8 → length w ≡ 128 → k < 16 → length u ≡ 8 →
     take (8 * k) w ++ (put_chunk zero (take n (drop (8 * k) w)) u ++ drop n (drop (8 * k) w)) ≡ put_chunk (8 * k) w u
 put_part k n w u hn lw h lu =
@@ -176,11 +176,11 @@ put_part k n w u hn lw h lu =
     ∙ (ap (λ q. take (8 * k) w ++ (u ++ drop q (drop (8 * k) w))) m
     ∙ sym (put_chunk_is (8 * k) w u (omega arith)))
 
--- the XOR of two vectors has eight words
+-- the XOR of two vectors of eight words has eight words
 pub long_sum : (x y r : List ℕ) → r ≡ zip2 bit_xor x y → length x ≡ 8 → length y ≡ 8 → length r ≡ 8
 long_sum x y r e lx ly = ap length e ∙ (length-zip2 bit_xor x y (omega arith) ∙ lx)
 
--- o once the XORs of the first k vectors of two blocks were put
+-- o after the XORs of the first k vectors of the blocks x and y were put into o
 abbrev puts : ℕ → List (List ℕ) → List (List ℕ) → List ℕ → List ℕ
 puts zero x y o = o
 puts (suc k) x y o = put_chunk (8 * k) (puts k x y o) (zip2 bit_xor (slice_index_or x k []) (slice_index_or y k []))
@@ -192,7 +192,7 @@ puts_are (suc k) x y o lx ly ex ey lo h =
     put_step k (xor (vector_words x) (vector_words y)) o (puts k x y o) _ (length_128 x y lx ly ex ey) lo (omega arith)
     (puts_are k x y o lx ly ex ey lo (omega arith)) (chunk_at x y k lx ly ex ey (omega arith))
 
--- the XORs of all sixteen are the blocks' XOR
+-- putting the XORs of all sixteen vectors of x and y into o gives the XOR of the blocks x and y
 pub all_puts : (x y : List (List ℕ)) (o : List ℕ) → length x ≡ 16 → length y ≡ 16 → Each1 Long x → Each1 Long y → length o ≡ 128 →
     puts 16 x y o ≡ xor (vector_words x) (vector_words y)
 all_puts x y o lx ly ex ey lo =
@@ -208,13 +208,14 @@ length_256 x y o lx ly ex ey lo =
     (vector_words y)) o (omega arith) in
     omega arith
 
--- behind the first k vectors the words are those of o
+-- if w is k vectors of t and then the rest of o, the eight words of w at 8 * k are the eight words of o at 8 * k
 chunk_left : (k : ℕ) (t o w : List ℕ) → length t ≡ 128 → k < 16 → w ≡ take (8 * k) t ++ drop (8 * k) o → chunk (8 * k) 8 w ≡ chunk (8 * k) 8 o
 chunk_left k t o w lt h e =
     let l : length (take (8 * k) t) ≡ 8 * k = length-chunk 0 (8 * k) t (omega arith) in
     ap (λ l. chunk (8 * k) 8 l) e ∙ ap (λ l. take 8 l) (drop_front (take (8 * k) t) (drop (8 * k) o) (8 * k) 0 (8 * k) l (omega arith))
 
--- the same where what is put is the XOR with the words that are there
+-- if w has k vectors of the XOR of x, y and o and then the rest of o, putting the XOR of vectors k of x and y and of
+-- the words of w at 8 * k gives k + 1 vectors of the XOR of x, y and o and then the rest of o
 pub onto_step : (x y : List (List ℕ)) (o : List ℕ) → length x ≡ 16 → length y ≡ 16 → Each1 Long x → Each1 Long y → length o ≡ 128 →
     (k : ℕ) (w v : List ℕ) → k < 16 →
     w ≡ take (8 * k) (xor (xor (vector_words x) (vector_words y)) o) ++ drop (8 * k) o →
@@ -226,7 +227,7 @@ onto_step x y o lx ly ex ey lo k w v h e f =
     f ∙ put_step k (xor both o) o w _ lt lo h e
     (rw (chunk_at x y k lx ly ex ey h, chunk_left k (xor both o) o w lt h e) (sym (chunk_xor (8 * k) 8 both o)))
 
--- all sixteen were put
+-- if w is the first 128 words of the XOR of x, y and o and then o without 128 words, w is the XOR of x, y and o
 pub onto_done : (x y : List (List ℕ)) (o w : List ℕ) → length x ≡ 16 → length y ≡ 16 → Each1 Long x → Each1 Long y → length o ≡ 128 →
     w ≡ take 128 (xor (xor (vector_words x) (vector_words y)) o) ++ drop 128 o → w ≡ xor (xor (vector_words x) (vector_words y)) o
 onto_done x y o w lx ly ex ey lo e =
@@ -258,7 +259,7 @@ last_turn : (q : ℕ → List ℕ) → block_of_registers (transpose (table_with
 unfolding block_of_registers transpose
 last_turn q = refl
 
--- the words of the block that the two steps make of the block b
+-- the words of the block b after P on each row and then P on each column
 abbrev pub mixed : List ℕ → List ℕ
 mixed b = flat_map (λ n. column (λ i. permute_p (column (λ j. permute_p (row b j)) i)) n) (range_with_len 0 8)
 
@@ -271,7 +272,7 @@ both_steps b =
 
 -- ---- the vectors of a block, two by two
 
--- two vectors are a row
+-- the eight words of b at i and then the eight words at i + 8 are the sixteen words at i
 two_chunks : (i k : ℕ) (b : List ℕ) → k ≡ i + 8 → chunk i 8 b ++ chunk k 8 b ≡ chunk i 16 b
 two_chunks i k b e = ap (λ l. chunk i 8 b ++ take 8 l) (ap (λ m. drop m b) e ∙ sym (drop-drop 8 i b)) ∙ sym (take-add 8 8 (drop i b))
 
@@ -285,7 +286,7 @@ row_of_vectors v l e j h =
     rw (first, second) (two_chunks (16 * j) (8 * (2 * j + 1)) (vector_words v) (omega arith)
     ∙ sym (pick_l-range_with_len 0 (vector_words v) (16 * j) 16 (omega arith)))
 
--- ---- what depends on eight lists alone
+-- ---- lists that functions give by number
 
 -- functions that agree below a + n give the same lists, joined over the n numbers from a on
 pub flat_map_same : (f g : ℕ → List ℕ) (a n : ℕ) → ((k : ℕ) → k < a + n → f k ≡ g k) → flat_map f (range_with_len a n) ≡ flat_map g (range_with_len a n)
@@ -294,21 +295,21 @@ flat_map_same f g a (suc n) e =
     let rest : flat_map f (range_with_len (a + 1) n) ≡ flat_map g (range_with_len (a + 1) n) = flat_map_same f g (a + 1) n (λ k h. e k (omega arith)) in
     ap (λ l. l ++ flat_map f (range_with_len (a + 1) n)) (e a (omega arith)) ∙ ap (λ l. g a ++ l) rest
 
--- eight lists that are the same one by one have the same words in column i
+-- if f n and g n are equal for each n below 8, column i of f is column i of g
 column_same : (f g : ℕ → List ℕ) → ((n : ℕ) → n < 8 → f n ≡ g n) → (i : ℕ) → column f i ≡ column g i
 column_same f g e i =
     flat_map_same (λ n. slice_index (f n) (2 * i) ∷ slice_index (f n) (2 * i + 1) ∷ []) (λ n. slice_index (g n) (2 * i) ∷ slice_index (g n)
     (2 * i + 1) ∷ []) 0 8
     (λ n h. ap (λ (l : List ℕ). slice_index l (2 * i) ∷ slice_index l (2 * i + 1) ∷ []) (e n (omega arith)))
 
--- the words of sixteen vectors are those of their eight pairs, joined
+-- the words of sixteen vectors are the eight pairs of vectors, joined
 joined_pairs : (v : List (List ℕ)) → length v ≡ 16 → vector_words v ≡ flat_map (vector_pair v) (range_with_len 0 8)
 joined_pairs v l = by_elements [] 16 (λ v. vector_words v ≡ flat_map (vector_pair v) (range_with_len 0 8)) v l (simp append_assoc)
 
--- ---- the whole
+-- ---- the whole compression function
 
--- p are the permuted rows of the vectors r, d are the permuted columns of p, and the columns of d are the
--- rows of the vectors o. Rows and columns are named by number, wherever they stand.
+-- if p j is P on row j of the vectors r, d k is P on column k of p, and row j of the vectors o is column j of d,
+-- then the words of o are the block of r after P on each row and then P on each column
 pub whole : (r o : List (List ℕ)) (p d : ℕ → List ℕ) → length r ≡ 16 → Each1 Long r → length o ≡ 16 →
     ((j : ℕ) → j < 8 → p j ≡ permute_p (vector_pair r j)) →
     ((k : ℕ) → k < 8 → d k ≡ permute_p (column p k)) →
@@ -327,7 +328,7 @@ whole r o p d lr long lo hp hd ho =
     ∙ (flat_map_same (vector_pair o) (λ j. column column_of j) 0 8 (λ j h. row_o j (omega arith))
     ∙ sym (both_steps (vector_words r)))
 
--- the exclusive or of two blocks, combined with what the steps make of it
+-- if r is the XOR of x and y, and `made` is r after P on rows and columns, xor r made is Argon2's G of x and y
 pub compressed : (x y r made : List ℕ) → r ≡ xor x y
     → made ≡ block_of_registers (transpose (permute_rows (transpose (permute_rows (registers_of r))))) →
     xor r made ≡ compress_g x y

@@ -45,11 +45,11 @@ module _ (job : CallerJob) (tasks : ℕ) (has_pool : Bool) (s : Team (work_of jo
   four zero h = filled.four
   four (suc n) h = (whole n h).keeps.four ∙ four n (omega (arith, h))
 
-  -- n, but at most the last
+  -- the smaller of n and `last`
   abbrev upto : ℕ → ℕ
   upto n = n - (n - last)
 
-  -- the slices before slice number n; after the last slice, what it left
+  -- the slices before slice number n is filled; past the last slice, as they are in the end
   abbrev pub slices : ℕ → List (List (List ℕ))
   slices n = s.before (suc (upto n))
 

@@ -1,4 +1,4 @@
--- A number that each move of the threads makes smaller.
+-- Each move of a thread except Writes makes the number `left` smaller; Writes leaves `left` unchanged.
 use Rattle.std.proofs.Common.{◌≡◌, ◌≢◌, ◌⊎◌, ℕ, suc, ◌+◌, ◌-◌, ◌*◌, ◌<◌, ◌≤◌, Bool, true, eqb, refl, sym, subst, ap, inl, inr, arith}
 use Rattle.std.proofs.lemmas.Bool.Decides.{eqb_tells}
 use Rattle.argon2_c.specs.Team as T
@@ -8,7 +8,8 @@ use Rattle.argon2_c.proofs.Team as P
 use Rattle.argon2_c.proofs.Sums.{total, total_same, total_change, there, elsewhere}
 use Rattle.argon2_c.proofs.Threads as B
 
--- the moves that a thread can still make, from its place on to its next wait, if no part were left
+-- how many moves at most a thread still makes until its next wait, without those that `parts_left` counts; a Tells
+-- counts as 2, since the caller's thread then makes one move more (Counts)
 abbrev member_left : H.Place → ℕ
 member_left (H.Taking part n) = 2 * n + 2
 member_left (H.Working part n) = 2 * n + 2
@@ -23,7 +24,8 @@ module _ (w : T.Work) (members : ℕ) (is_long : Bool) where
   abbrev IsMember : ℕ → Type 0
   IsMember j = H.IsMember w members is_long j
 
-  -- and the caller's thread
+  -- how many moves the caller's thread still makes until it returns, if no step follows, without Counts and those that
+  -- `parts_left` counts; a Dismisses counts as 5, since the woken thread then makes 4 moves at most
   abbrev caller_left : H.Place → ℕ
   caller_left (H.Waking k) = 5 * members + 5 + (members + 1 - k)
   caller_left (H.Taking part n) = 5 * members + 4
@@ -101,7 +103,7 @@ module _ (w : T.Work) (members : ℕ) (is_long : Bool) where
     abbrev next_of : H.Move w members is_long → Threads
     next_of m = H.after w members is_long s m
 
-    -- where one thread goes to another place, the others stay
+    -- if thread j goes to another place and thread k keeps its wakes, `thread_left` of k is unchanged
     others_stay : (j : ℕ) (place : H.Place) (wakes : ℕ → ℕ) (k : ℕ) → k ≢ j → wakes k ≡ s.wakes k
         → 4 * (w.steps - s.team.woken k) + 4 * wakes k + member_left (T.updated s.place j place k) ≡ thread_left s k
     others_stay j place wakes k ne same = let e = ap member_left (elsewhere s.place j place k ne) in omega (arith, e, same)
@@ -164,7 +166,7 @@ module _ (w : T.Work) (members : ℕ) (is_long : Bool) where
         ] in
         by_caller s (next_of H.Stops) refl refl (λ k is. others_stay 0 (H.Ending 1) s.wakes k (λ e. omega (arith, e, is.0)) refl) (omega (arith, at))
 
-    -- a move of another thread than the caller's, from a place to a place
+    -- if thread j, not the caller's, goes to a place with a smaller `member_left`, `left` becomes smaller (`gone_less`)
     module _ (j : ℕ) (is : IsMember j) (from to : H.Place) (was : s.place j ≡ from) where
       not_caller : 0 ≢ j
       not_caller e = omega (arith, e, is.0)

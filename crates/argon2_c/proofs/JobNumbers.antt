@@ -1,4 +1,4 @@
--- The numbers of calls and jobs.
+-- Which variant, version, setting and configuration the numbers of a call or a job stand for.
 use Rattle.std.proofs.Common.{◌≡◌, ℕ, None, Some, refl, sym, subst, inl, inr, ◌*◌, ◌^◌, ◌<◌, ◌≤◌, Bool, false, true, List, length, arith, Option, Ok}
 use Rattle.std.proofs.Common.{Err, ap, ◌∙◌, Bor, Result}
 use Rattle.std.proofs.lemmas.Bool.Decides.{eqb_tells}
@@ -66,7 +66,7 @@ version_of-none number none = elim (eqb_tells number 0x10) [
 
 -- ---- the setting of a job's numbers
 
--- the numbers of a setting are those of no other
+-- `setting_of_job` recovers a valid setting s from `job_of s len`, if the tag length len is at least 4
 pub recovered : (s : Setting) (len : ℕ) → IsSetting s → 4 ≤ len → setting_of_job (job_of s len) ≡ Some s
 recovered s len good long =
     let variant = variant_of-number s.variant _ refl in
@@ -80,11 +80,11 @@ recovered s len good long =
     let tag : nat_lt len 4 ≡ false = le-ltb len 4 long in
     rw (variant, version, none, many, short, much, passes, tag) refl
 
--- the table's row on a short hash
+-- if the settings table has no error, the hash length h is at least 4
 pub accepted_hash : (config : Config) (p s h : ℕ) → table_error config p s h ≡ None → 4 ≤ h
 accepted_hash config p s h none = (accepted config p s h (rw none refl)).hash_suffices
 
--- the setting of an accepted call, whose costs fit 32 bits
+-- an accepted call whose costs fit 32 bits has a valid setting
 pub setting_that_fits : (pwd salt : List ℕ) (config : Config) (len : ℕ) → table_error config (length pwd) (length salt) len ≡ None
     → config.time_cost < 2 ^ 32 → config.mem_cost < 2 ^ 32 → IsSetting (setting_of pwd salt config len)
 unfolding setting_of prehash_of
@@ -110,7 +110,7 @@ neither false b h = (refl, h)
 some : (n : ℕ) → (n == 0) ≡ false → 0 < n
 some n h = elim (eqb_tells n 0) [ inl w ↦ absurd (cc (w.0)) | inr w ↦ omega (arith, w.1) ]
 
--- numbers within their bounds are those of a setting
+-- a job with a prehash of 64 bytes and numbers within bounds has a valid setting, with any variant v and version w
 pub bounded : (job : CallerJob) (v : Variant) (w : Version) → length job.prehash ≡ 64 → job.passes < 2 ^ 32 → is_out_of_bounds job ≡ false
     → IsSetting (setting_with job v w)
 bounded job v w prehash few h =
@@ -130,7 +130,7 @@ bounded job v w prehash few h =
       fits = omega (arith, fits);
     }
 
--- `setting_at` gives that setting
+-- if a job's numbers are within bounds, `setting_at` returns the job's setting with variant v and version w
 pub kept : (job : CallerJob) (v : Variant) (w : Version) → is_out_of_bounds job ≡ false → setting_at job (Some v) (Some w) ≡ Some (setting_with job v w)
 kept job v w h = rw h refl
 
@@ -154,11 +154,11 @@ module _ (settings : Settings) (s a secret ad : Bor (List ℕ)) where
   at_no_numbers (Some v) None e is = sym is
   at_no_numbers (Some v) (Some w) e is = absurd (cc)
 
-  -- settings with a configuration have one for any inputs
+  -- if settings have a configuration, another secret and other data change only these two fields of the configuration
   pub other_inputs : (config : Config) → Ok config ≡ config_of settings s a → config_of settings secret ad ≡ Ok (with_inputs config secret ad)
   other_inputs config is = at_numbers (variant_of settings.variant) (version_of settings.version) config is
 
-  -- settings without one have none for any inputs
+  -- if settings have an error instead of a configuration, they have the same error with any secret and data
   pub no_inputs : (e : Error) → Err e ≡ config_of settings s a → config_of settings secret ad ≡ Err e
   no_inputs e is = at_no_numbers (variant_of settings.variant) (version_of settings.version) e is
 
@@ -170,7 +170,7 @@ module _ (settings : Settings) (s a secret ad : Bor (List ℕ)) where
       let same : config ≡ config_with settings s a v w = cc in
       rw same (refl, refl)
 
-  -- of the secret and the associated data, the table looks only at the lengths
+  -- the table has the same error for references to an equal secret and equal associated data
   pub same_error : (config : Config) (pwd salt hash : ℕ) → Ok config ≡ config_of settings s a → s.now ≡ secret.now → a.now ≡ ad.now
       → table_error (with_inputs config secret ad) pwd salt hash ≡ table_error config pwd salt hash
   same_error config pwd salt hash is same_secret same_ad =
@@ -178,7 +178,7 @@ module _ (settings : Settings) (s a secret ad : Bor (List ℕ)) where
       table_error-same (with_inputs config secret ad) config pwd salt hash refl refl refl
       (sym same_secret ∙ ap (λ (x : Bor (List ℕ)). x.now) (sym own.0)) (sym same_ad ∙ ap (λ (x : Bor (List ℕ)). x.now) (sym own.1))
 
--- a comparison does not look at the secret and the associated data
+-- a decoded value d that agrees with a configuration still agrees after a change of the secret and associated data
 pub agrees_with : (d : Spelled) (config : Config) (secret ad : Bor (List ℕ)) → Agrees d config → Agrees d (with_inputs config secret ad)
 agrees_with d config secret ad h = record {
   variant = h.variant;
@@ -192,13 +192,13 @@ agrees_with d config secret ad h = record {
 pub agrees_without : (d : Spelled) (config : Config) (secret ad : Bor (List ℕ)) → Agrees d (with_inputs config secret ad) → Agrees d config
 agrees_without d config secret ad h = agrees_with d (with_inputs config secret ad) config.secret config.ad h
 
--- ---- the lengths of what an accepted call is given
+-- ---- the length of an accepted salt
 
--- the table's row on a long salt
+-- if the settings table has no error, the salt length s is at most 2^32 - 1
 pub accepted_salt : (config : Config) (p s h : ℕ) → table_error config p s h ≡ None → s ≤ 4294967295
 accepted_salt config p s h none = (accepted config p s h (rw none refl)).salt_fits
 
--- ---- from the head of a string to what is said of the string
+-- ---- `OfText`, which speaks of a whole string, proved from the string's head
 
 -- a string without a head is rejected
 pub no_head : {A : Type 0} (text : List ℕ) (error : CallError) (old : A) (Done : Spelled → Type 0)
@@ -214,7 +214,7 @@ no_head text error old Done (inr (is, ascii, none)) = record {
   spelled = λ _ d s. absurd (none d s);
 }
 
--- if `Done` is true of any salt and hash with a head, it is true of the decoded value
+-- if `Done` is true of a head with any salt and hash, it is true of the decoded value
 pub by_head : {A : Type 0} (text : List ℕ) (h : Head) (old new : A) (answer : Result (Unit {0}) CallError) (Done : Spelled → Type 0) → HasHead text h
     → ((salt hash : List ℕ) → IsItem h.salt.now salt → IsItem h.hash.now hash → Done (spelled_with h salt hash)) → OfText text old new answer Done
 by_head text h old new answer Done (ascii, s) done = record {
@@ -223,9 +223,9 @@ by_head text h old new answer Done (ascii, s) done = record {
   spelled = λ _ d spells. subst Done (sym (spelled_at text h d s spells)) (done s.0 s.1 s.2.salt_item s.2.hash_item);
 }
 
--- ---- the job of an encoded hash rests on what it decodes to, the secret and the associated data alone
+-- ---- the job of an encoded hash depends only on the decoded value, the password, the secret and the associated data
 
--- each configuration with the decoded fields, the secret and the data has the same job as the one that is used
+-- a job of the configuration `used` is the job of each configuration with the decoded fields, the secret and the data
 pub made_job : (d : Spelled) (pwd secret ad : List ℕ) (config used : Config) (job : CallerJob) → IsConfigOf d secret ad used → IsStoredConfig d secret ad config
     → used.hash_length ≡ length d.hash → job ≡ job_of (setting_of pwd d.salt used used.hash_length) used.hash_length
     → job ≡ job_of (setting_of pwd d.salt config (length d.hash)) (length d.hash)
@@ -235,6 +235,6 @@ made_job d pwd secret ad config used job u here own made =
     (x.lanes ∙ sym here.lanes) (x.mem_cost ∙ sym here.mem_cost) (x.time_cost ∙ sym here.time_cost) (x.secret ∙ sym here.secret) (x.ad ∙ sym here.ad) in
     made ∙ ap (λ n. job_of (setting_of pwd d.salt used n) n) own ∙ ap (λ s. job_of s (length d.hash)) same
 
--- a job with equal buffers
+-- two stored jobs with the same job are equal if their items are equal
 pub with_items : (job : CallerJob) (a b : Items) → a ≡ b → (let x : StoredJob = record { job = job; items = a } in x) ≡ record { job = job; items = b }
 with_items job a b same = rw same refl

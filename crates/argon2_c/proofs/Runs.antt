@@ -1,4 +1,4 @@
--- The steps of a job, in any order.
+-- A run of a job's steps gives the tag, as one call for all steps does. The lanes' turns in any order make a run.
 use Rattle.std.proofs.Common.{◌≡◌, ℕ, suc, ◌-◌, ◌*◌, ◌/◌, ◌%◌, ◌<◌, List, [], ◌∷◌, length, get_or, Some, Result, Ok, Err, refl, arith, ap, sym, inl}
 use Rattle.std.proofs.Common.{inr, ◌∙◌, ◌≢◌, ◌+◌}
 use Rattle.std.specs.List.{remove}
@@ -30,7 +30,7 @@ use Rattle.argon2_c.specs.declared.jobs.CallerJob.{CallerJob}
 
 -- ---- what a step did if it returned 0
 
--- two numbers are equal or not
+-- A follows if A follows from `one ≢ other` and from `one ≡ other`
 decide : {A : Type 0} (one other : ℕ) → ((one ≡ other → ⊥) → A) → (one ≡ other → A) → A
 decide one other differ same = elim (eqb_tells one other) [ inl w ↦ same w.1 | inr w ↦ differ w.1 ]
 
@@ -69,7 +69,7 @@ verified s len last hash old new answer blocks lengths h =
 
 -- ---- the run
 
--- a list of three
+-- a list of length 3 consists of its elements 0, 1 and 2
 three_of : (xs : List (List (List ℕ))) → length xs ≡ 3 → get_or xs 0 [] ∷ get_or xs 1 [] ∷ get_or xs 2 [] ∷ [] ≡ xs
 three_of [] e = absurd (omega (arith, e))
 three_of (a ∷ []) e = absurd (omega (arith, e))
@@ -77,13 +77,13 @@ three_of (a ∷ b ∷ []) e = absurd (omega (arith, e))
 three_of (a ∷ b ∷ c ∷ []) e = refl
 three_of (a ∷ b ∷ c ∷ d ∷ rest) e = absurd (omega (arith, e))
 
--- what the call for all steps wrote, if it returned 0
+-- if the call for all steps returned 0, the tag that it wrote is `tag_from (last_blocks s) len`
 hashed : (s : Setting) (len : ℕ) (old new : BlocksAndTag) → HashesJob (Some s) len old new (Ok tt) → new.tag ≡ tag_from (last_blocks s) len
 hashed s len old new h =
     decide (length old.blocks) (memory_blocks s) (λ no. absurd (let e = (h.wrong_blocks no).0 in cc)) (λ one.
     decide (length old.tag) len (λ no. absurd (let e = (h.wrong_length one no).0 in cc)) (λ two. (h.hashed one two).1))
 
--- and its verdict, if it returned a verdict
+-- if the call for all steps that checks `hash` found all lengths right, its answer tells whether `hash` is the tag
 judged : (s : Setting) (len : ℕ) (hash : List ℕ) (old new : BlocksAndTag) (answer : Result (Unit {0}) CallError)
     → (answer ≡ Err WrongBlocks → ⊥) → (answer ≡ Err WrongLength → ⊥) → JudgesJob (Some s) len hash old new answer
     → Tells (hash ≡ tag_from (last_blocks s) len) answer
@@ -103,7 +103,7 @@ module _ (pwd salt : List ℕ) (config : Config) (len : ℕ) where
     is : setting_of_job (job_of its len) ≡ Some its
     is = recovered its len good (accepted_hash config (length pwd) (length salt) len from.accepted)
 
-    -- ---- one call
+    -- ---- one call for all steps
 
     pub called_tag : (old new : BlocksAndTag) → HashesJob (setting_of_job (job_of its len)) len old new (Ok tt) → new.tag ≡ tag_of pwd salt config len
     unfolding tag_of
@@ -213,7 +213,7 @@ module _ (job : CallerJob) where
     }
 
   module _ (start : List (List (List ℕ))) (slices : ℕ → List (List (List ℕ))) (run : IsRunOfTurns job start slices) where
-    -- the slices other than the one that is filled stay the same
+    -- while slice number n is filled, each slice k other than slice n % 4 stays unchanged
     beside_same : (n k : ℕ) → n < 4 * job.passes → k ≢ n % 4 → slice_at (slices (suc n)) k ≡ slice_at (slices n) k
     beside_same n k few ne = same_at (slices n) (slices (suc n)) (n % 4) k (omega (arith, run.four n)) (omega (arith, run.four (suc n))) ne
         (all_unchanged (IsFill job n) (SameBeside job (n % 4)) (lane_of job (n % 4)) (FillsBeside n) (fills_apart n) job.lanes

@@ -1,4 +1,4 @@
--- Sums of numbers, and updates of functions.
+-- Lemmas on the sum of a function's first n values, and on updates of functions.
 use Rattle.std.proofs.Common.{◌≡◌, ◌≢◌, ◌⊎◌, ℕ, zero, suc, ◌+◌, ◌<◌, ◌≤◌, cond, ltb, refl, sym, subst, ap, inl, inr, arith}
 use Rattle.std.proofs.lemmas.Bool.Decides.{eqb_tells, leb_tells}
 use Rattle.argon2_c.specs.Team.{updated}
@@ -51,14 +51,14 @@ pub total_all : (n : ℕ) (f : ℕ → ℕ) → ((k : ℕ) → k < n → f k ≡
 total_all zero f all = refl
 total_all (suc n) f all = let h = total_all n f (λ k inside. all k (omega (arith, inside))) in omega (arith, h, all n (omega arith))
 
--- the value of an update at its place and elsewhere
+-- an updated function has the new value at `place`, and (next lemma) its old value at any other place
 pub there : {A : Type 0} (f : ℕ → A) (place : ℕ) (value : A) → updated f place value place ≡ value
 there f place value = elim (eqb_tells place place) [ inl x ↦ hit f place value place x.0 | inr x ↦ absurd (x.1 refl) ]
 
 pub elsewhere : {A : Type 0} (f : ℕ → A) (place : ℕ) (value : A) (i : ℕ) → i ≢ place → updated f place value i ≡ f i
 elsewhere f place value i ne = elim (eqb_tells i place) [ inl x ↦ absurd (ne x.1) | inr x ↦ miss f place value i x.0 ]
 
--- if each number has the property P or Q, then all have P, or one has Q
+-- if each number below n has the property P or Q, all numbers below n have P, or a number below n has Q
 pub search_below : (n : ℕ) (P Q : ℕ → Type 0) → ((i : ℕ) → i < n → P i ⊎ Q i) → ((i : ℕ) → i < n → P i) ⊎ ((i : ℕ) × (i < n) × Q i)
 search_below zero P Q each = inl (λ i inside. absurd (omega (arith, inside)))
 search_below (suc n) P Q each = elim (search_below n P Q (λ i inside. each i (omega (arith, inside)))) [

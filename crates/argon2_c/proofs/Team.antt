@@ -1,9 +1,9 @@
--- What holds in each state that a team can reach.
+-- The invariant `Holds` is true in each state that a team can reach.
 use Rattle.std.proofs.Common.{◌≡◌, ◌≢◌, ℕ, suc, ◌+◌, ◌*◌, ◌<◌, ◌≤◌, Bool, true, false, eqb, refl, sym, ◌∙◌, subst, ap, inl, inr, arith}
 use Rattle.std.proofs.lemmas.Bool.Decides.{eqb_tells}
 use Rattle.argon2_c.specs.Team as T
 
--- the value at the place of an update, and elsewhere
+-- an updated function has the new value at `place`, and (next lemma) its old value at any other place
 pub hit : {A : Type 0} (f : ℕ → A) (place : ℕ) (value : A) (i : ℕ) → eqb i place ≡ true → T.updated f place value i ≡ value
 hit f place value i e = rw e refl
 
@@ -130,7 +130,7 @@ module _ (w : T.Work) where
         lanes = lanes;
       }
 
-      -- a part of the present step is claimed
+      -- a claim of part i of the present step keeps `Holds` (`claim_kept`)
       module _ (i : ℕ) (can : T.CanClaim w s s.step i) (goes_on : s.is_over ≡ false) (more : s.step < w.steps) where
         at_claimed : (k : ℕ) → eqb k i ≡ true → T.updated s.state i (2 * s.step + 1) k ≡ 2 * s.step + 1
         at_claimed k e = hit s.state i (2 * s.step + 1) k e
@@ -175,7 +175,7 @@ module _ (w : T.Work) where
           };
         }
 
-      -- whoever claims a part by its own count is in the present step
+      -- a thread claims a part only of the present step, though it counts steps itself
       module _ (n i : ℕ) (can : T.Can w s (T.Claims n i)) where
         pub present : n ≡ s.step
         present = elim can.1 [
@@ -235,7 +235,7 @@ module _ (w : T.Work) where
 
       -- ---- work
 
-      -- whoever works does so in the present step
+      -- if part i is being worked on for step n, n is the present step
       works_now : (n i : ℕ) → T.CanEnd w s n i → n ≡ s.step
       works_now n i can = omega (arith, states.least i can.exists, states.most i can.exists, can.at_work)
 
@@ -272,7 +272,7 @@ module _ (w : T.Work) where
           };
         }
 
-      -- a part ends, with a code that is 0 only if it was done
+      -- the end of part i keeps `Holds`, if the code is 0 only when the segments of part i are filled (`ends_kept`)
       module _ (n i code : ℕ) (can : T.CanEnd w s n i)
           (fills : code ≡ 0 → (l : ℕ) → l < w.lanes → w.worker l ≡ i → w.Fills n l s.memory (s.claimed l) (w.segment n l s.memory)) where
         abbrev ended : n ≡ s.step

@@ -7,7 +7,7 @@ use Rattle.argon2_c.proofs.Team.{hit, miss}
 use Rattle.argon2_c.proofs.Team as P
 use Rattle.argon2_c.proofs.Sums.{total, total_same, total_change, total_least, total_most, total_full, total_none, total_all, there, elsewhere, search_below, below}
 
--- for how many finished parts a thread has not yet woken the caller's thread, and of how many that thread knows
+-- how many finished parts a thread has not yet told the caller's thread, and how many the caller's thread knows
 abbrev untold : H.Place → ℕ
 untold (H.Taking part n) = n
 untold (H.Working part n) = n
@@ -20,7 +20,7 @@ known (H.Working part n) = n
 known (H.Counting n) = n
 known other = 0
 
--- whether the caller's thread has woken a thread for the last time
+-- 1 if the caller's thread, at this place, has woken thread j for the last time, otherwise 0
 abbrev last_wake : H.Place → ℕ → ℕ
 last_wake (H.Ending k) j = cond (ltb j k) 1 0
 last_wake H.Ended j = 1
@@ -41,7 +41,7 @@ done_most step state = elim (leb_tells (2 * step + 2) state) [ inl x ↦ rw x.0 
 done_is : (step state : ℕ) → is_done step state ≡ 1 → 2 * step + 2 ≤ state
 done_is step state e = elim (leb_tells (2 * step + 2) state) [ inl x ↦ x.1 | inr x ↦ absurd (let no = done_no step state x.1 in omega (arith, no, e)) ]
 
--- how many parts a thread may take
+-- a thread j may take w.tasks parts, or w.tasks - members as the caller's thread (j = 0), or 1 as another thread
 most_cases : (w : T.Work) (members : ℕ) (is_long : Bool) (j : ℕ) → let most = H.most w members is_long j in
     (most ≡ w.tasks) ⊎ ((j ≡ 0) × (most ≡ w.tasks - members)) ⊎ ((j ≢ 0) × (most ≡ 1))
 most_cases w members false j = inl refl
@@ -66,7 +66,7 @@ module _ (w : T.Work) (members : ℕ) (is_long : Bool) where
   abbrev pub IsClaimed : Threads → ℕ → Type 0
   IsClaimed s i = 2 * s.team.step < s.team.state i
 
-  -- the parts from a thread's own part downwards
+  -- `part` is n places below thread j's own part, counted in a circle
   pub record Position (j part n : ℕ) : Type 0 where
     pub exists : part < w.tasks
     pub at : (part + n ≡ j) ⊎ (part + n ≡ j + w.tasks)
@@ -135,12 +135,12 @@ module _ (w : T.Work) (members : ℕ) (is_long : Bool) where
   Caller s H.Ended = (s.team.is_over ≡ true) × ((j : ℕ) → IsMember j → s.place j ≡ H.Ended)
   Caller s other = ⊥
 
-  -- a thread's own part is claimed, once it has tried to claim it in this step
+  -- thread j's own part, part j, is claimed, unless thread j is about to claim its first part of the step
   abbrev pub Own : Threads → ℕ → H.Place → Type 0
   Own s j (H.Taking part n) = (n ≡ 0) ⊎ IsClaimed s j
   Own s j other = IsClaimed s j
 
-  -- whoever claimed a part of this step works on it, or is about to claim the next
+  -- the thread that claimed part i in this step works on part i, or is about to claim part `next i`
   pub record GoesOn (s : Threads) (i : ℕ) : Type 0 where
     pub inside : s.owner i ≤ members
     pub now : H.own_step w members is_long s (s.owner i) ≡ s.team.step
@@ -212,7 +212,7 @@ module _ (w : T.Work) (members : ℕ) (is_long : Bool) where
     own_moved k H.Left o = claimed_moved k o
     own_moved k (H.Ending n) o = claimed_moved k o
 
-    -- the caller's thread, where another one moved
+    -- a move of a thread j other than the caller's keeps what `Caller` says of the caller's thread (`caller_moved`)
     module _ (other : 0 ≢ j) (woken : (k : ℕ) → t.team.woken k ≡ s.team.woken k)
         (ended : ((k : ℕ) → IsMember k → s.place k ≡ H.Ended) → (k : ℕ) → IsMember k → t.place k ≡ H.Ended) where
       going_moved : Going s → Going t
@@ -252,7 +252,7 @@ module _ (w : T.Work) (members : ℕ) (is_long : Bool) where
       caller_moved H.Waiting m = m
       caller_moved H.Woken m = m
 
-    -- the parts, where none was claimed or done
+    -- a move that claims and finishes no part keeps the invariants `busy` and `chain`
     module _ (inv : Holds s) (state : (i : ℕ) → t.team.state i ≡ s.team.state i) (owner : (i : ℕ) → t.owner i ≡ s.owner i)
         (idle : (part n : ℕ) → s.place j ≢ H.Working part n)
         (leaves : s.team.is_over ≡ false → (i n : ℕ) → i < w.tasks → IsClaimed s i → members < next i → H.own_step w members is_long s j ≡ s.team.step → s.place j ≡ H.Taking (next i) n → IsClaimed s (next i)) where
@@ -320,7 +320,7 @@ module _ (w : T.Work) (members : ℕ) (is_long : Bool) where
       facts : P.Holds w s.team
       facts = P.holds w apart s.team inv.team
 
-      -- how a move of the caller's thread, or of another thread, changes the count
+      -- how a move of the caller's thread, or of another thread, changes the totals in `Count`
       module _ (t : Threads) (j : ℕ) (c : Changes s t j) where
         told_same : j ≡ 0 → total members (λ k. untold (t.place (suc k))) ≡ total members (λ k. untold (s.place (suc k)))
         told_same e = total_same members (λ k. untold (s.place (suc k))) (λ k. untold (t.place (suc k)))
@@ -337,7 +337,7 @@ module _ (w : T.Work) (members : ℕ) (is_long : Bool) where
             → total w.tasks (λ i. is_done t.team.step (t.team.state i)) ≡ total w.tasks (λ i. is_done s.team.step (s.team.state i))
         done_same same = total_same w.tasks (λ i. is_done s.team.step (s.team.state i)) (λ i. is_done t.team.step (t.team.state i)) (λ i inside. same i)
 
-      -- a move of another thread than the caller's that claims and finishes nothing
+      -- a move of thread j, not the caller's, that claims and finishes no part keeps `Holds`, under these hypotheses
       module _ (t : Threads) (j : ℕ) (is : IsMember j) (c : Changes s t j) (team : T.IsReached w t.team) (from : H.Place) (was : s.place j ≡ from)
           (state : (i : ℕ) → t.team.state i ≡ s.team.state i) (owner : (i : ℕ) → t.owner i ≡ s.owner i) (woken : (k : ℕ) → t.team.woken k ≡ s.team.woken k)
           (idle : (part n : ℕ) → from ≢ H.Working part n) (alive : from ≢ H.Ended)
@@ -363,7 +363,7 @@ module _ (w : T.Work) (members : ℕ) (is_long : Bool) where
           count = λ over. count (sym c.over ∙ over);
         }
 
-      -- and one of the caller's thread
+      -- a move of the caller's thread that claims and finishes no part keeps `Holds`, under these hypotheses
       module _ (t : Threads) (c : Changes s t 0) (team : T.IsReached w t.team) (from : H.Place) (was : s.place 0 ≡ from)
           (state : (i : ℕ) → t.team.state i ≡ s.team.state i) (owner : (i : ℕ) → t.owner i ≡ s.owner i)
           (idle : (part n : ℕ) → from ≢ H.Working part n)
@@ -579,7 +579,7 @@ module _ (w : T.Work) (members : ℕ) (is_long : Bool) where
       -- ---- the other threads
 
       module _ (j : ℕ) (is : IsMember j) (place : H.Place) (wakes : ℕ) where
-        -- a thread goes to a place, and has other wakes
+        -- the state s after thread j went to `place` and its semaphore was set to `wakes`
         abbrev moved : Threads
         moved = record s { place = T.updated s.place j place; wakes = T.updated s.wakes j wakes }
 
@@ -780,7 +780,8 @@ module _ (w : T.Work) (members : ℕ) (is_long : Bool) where
 
       -- ---- parts
 
-      -- when a thread takes no more parts, all parts that it had to take are claimed
+      -- the next lemmas lead to `own_claimed` and `left_claimed`: when a thread takes no more parts, its own
+      -- part is claimed, and so is the part that the thread has reached, unless this is a thread's own part
       pub own_at_member : (j : ℕ) → IsMember j → H.own_step w members is_long s j ≡ s.team.entered j - 1
       own_at_member j is = elim (eqb_tells j 0) [ inl x ↦ absurd (omega (arith, x.1, is.0)) | inr x ↦ rw x.0 refl ]
 
@@ -792,7 +793,7 @@ module _ (w : T.Work) (members : ℕ) (is_long : Bool) where
       claimed_if_not_free : (i : ℕ) → i < w.tasks → s.team.state i ≢ 2 * s.team.step → IsClaimed s i
       claimed_if_not_free i exists ne = omega (arith, ne, facts.states.least i exists)
 
-      -- a thread that may take no more parts has reached a claimed part, or the own part of another thread
+      -- if thread j has taken `most j` parts, the part that it has reached is claimed, unless it is a thread's own part
       claimed_after_most : s.team.is_over ≡ false → (j part n : ℕ) → j ≤ members → s.place j ≡ H.Taking part n → Position j part n → n ≤ most j → most j ≤ n
           → members < part → IsClaimed s part
       claimed_after_most over j part n inside is position few full far = elim (most_cases w members is_long j) [
@@ -832,7 +833,7 @@ module _ (w : T.Work) (members : ℕ) (is_long : Bool) where
       first_part : (j part : ℕ) → Position j part 0 → part ≡ j
       first_part j part position = elim position.at [ inl e ↦ omega (arith, e) | inr e ↦ absurd (omega (arith, e, position.exists)) ]
 
-      -- when a thread takes no more parts, its own is claimed
+      -- when thread j takes no more parts of the present step, its own part, part j, is claimed
       own_claimed : (j part n : ℕ) → Position j part n → H.own_step w members is_long s j ≡ s.team.step → (n ≡ 0) ⊎ IsClaimed s j
           → (most j ≤ n) ⊎ (s.team.state part ≢ 2 * H.own_step w members is_long s j) → IsClaimed s j
       own_claimed j part n position now first why = elim first [
@@ -902,7 +903,7 @@ module _ (w : T.Work) (members : ℕ) (is_long : Bool) where
           | inr x ↦ rw x.0 refl
         ]
 
-      -- a thread claims a part, of the present step as it turns out
+      -- if thread j claims `part`, thread j is in the present step (`now`), and the claim keeps `busy` and `chain`
       module _ (j part n : ℕ) (can : H.Can w members is_long s (H.Claims j part n)) (exists : part < w.tasks)
           (is_in : T.IsIn w s.team (H.own_step w members is_long s j)) where
         abbrev claims_t : Threads
@@ -1117,7 +1118,7 @@ module _ (w : T.Work) (members : ℕ) (is_long : Bool) where
               omega (arith, told, new, was, k, done, inv.count over);
         }
 
-      -- whoever works does so in the present step, on a part that it claimed
+      -- a thread j that works on `part` is in the present step, and was the last thread to claim `part`
       pub record Works (j part n : ℕ) : Type 0 where
         pub now : H.own_step w members is_long s j ≡ s.team.step
         pub position : Position j part n
@@ -1596,7 +1597,7 @@ module _ (w : T.Work) (members : ℕ) (is_long : Bool) where
       abbrev Some : Type 0
       Some = (m : H.Move w members is_long) × H.Can w members is_long s m
 
-      -- a thread that cannot go on waits for a wake, or has ended
+      -- thread j cannot go on: it waits and has no pending wake, or it has ended
       abbrev Stuck : ℕ → Type 0
       Stuck j = ((s.place j ≡ H.Waiting) × (s.wakes j ≡ 0)) ⊎ (s.place j ≡ H.Ended)
 
@@ -1635,7 +1636,8 @@ module _ (w : T.Work) (members : ℕ) (is_long : Bool) where
       member_goes j member H.Left is m = absurd m
       member_goes j member (H.Ending n) is m = absurd m
 
-      -- while the caller's thread waits for parts, some other thread can go on
+      -- if the caller's thread waits for parts and all other threads are stuck, all parts are done (`all_through`);
+      -- if no wake is pending for the caller's thread either, d is w.tasks (`all_counted`)
       module _ (d : ℕ) (at : s.place 0 ≡ H.Counting d) (stuck : (j : ℕ) → IsMember j → Stuck j) where
         going_then : Going s × IsClaimed s 0
         going_then = subst (Caller s) at inv.caller

@@ -1,4 +1,4 @@
--- The password that is read.
+-- What is proved for the bytes that were read as the password holds for the whole input. Arguments are read in turn.
 use Rattle.std.proofs.Common.{◌≡◌, ◌+◌, ◌*◌, ◌==◌, ◌++◌, ◌-◌, ◌∷◌, ◌<◌, ◌≤◌, ◌⊎◌, ℕ, Bool, true, false, List, Option, None, Some, IfSome, IsNone}
 use Rattle.std.proofs.Common.{MatchOption, Result, Err, arith, inl, inr, length, min, nat_lt, refl, sym, ◌∙◌, ap, drop, subst, take, [], Vec, get_or}
 use Rattle.std.proofs.Math.Nat.{min-le_left, min-le_right}
@@ -35,7 +35,7 @@ is_enough password bytes read = elim (cases_lt (max_length + 1) (length bytes)) 
       inr (lt-ltb _ _ (omega (arith, most)), lt-ltb _ _ (omega (arith, long)))
 ]
 
--- a call with a password that is too long is refused, and by the same row whatever the password is
+-- if the table's row for a password that is too long applies (`long`), the table has an error
 first_of : (a b c d long : Bool) (rows : List (Bool × Error)) → long ≡ true →
     (e : Error) × (first_that_applies ((a, LanesTooFew) ∷ (b, LanesTooMany) ∷ (c, MemoryTooLittle) ∷ (d, TimeTooSmall) ∷ (long, PwdTooLong) ∷ rows) ≡ Some e)
 first_of true b c d long rows e = (LanesTooFew, refl)
@@ -45,18 +45,20 @@ first_of false false false true long rows e = (TimeTooSmall, refl)
 first_of false false false false true rows e = (PwdTooLong, refl)
 first_of false false false false false rows e = absurd (cc)
 
+-- a password that is too long has an error in the settings table
 refused_long : (config : Config) (password salt hash : ℕ) → nat_lt max_length password ≡ true → (e : Error) × (table_error config password salt hash ≡ Some e)
 unfolding table_error
 refused_long config password salt hash long =
     first_of (config.lanes == 0) (nat_lt max_lanes config.lanes) (nat_lt config.mem_cost (min_memory * config.lanes))
     (config.time_cost == 0) (nat_lt max_length password) (drop 5 (settings_table config password salt hash)) long
 
+-- two passwords that are both too long have the same error in the settings table
 same_table_error : (config : Config) (one other salt hash : ℕ) → nat_lt max_length one ≡ true → nat_lt max_length other ≡ true
     → table_error config one salt hash ≡ table_error config other salt hash
 unfolding table_error
 same_table_error config one other salt hash long also = rw (long, also) refl
 
--- so the answer for what was read is the answer for all
+-- if `IsEnough` holds, the lines for the bytes that were read are the lines for all bytes (below: errors and verdicts)
 hash_of_all : (config : Config) (salt lines password bytes : List ℕ) → IsEnough password bytes → HashAnswers config salt password lines
     → HashAnswers config salt bytes lines
 hash_of_all config salt lines password bytes (inl same) h = subst (λ p. HashAnswers config salt p lines) same h
@@ -97,7 +99,7 @@ of_input : (P : List ℕ → Type 0) (input : Option (List ℕ)) (password : Lis
 of_input P None password read all h = (password, tt, h)
 of_input P (Some bytes) password read all h = (bytes, refl, all bytes (is_enough password bytes read) h)
 
--- the password is the input up to one byte more than the longest that is accepted
+-- `password` is the first max_length + 1 bytes of the input, or the whole input if it is shorter
 abbrev WasRead : Option (List ℕ) → List ℕ → Type 0
 WasRead input password = IfSome input (λ bytes. password ≡ take (max_length + 1) bytes)
 
@@ -126,7 +128,7 @@ short_is_all (Some bytes) password read short =
     let taken : length password ≡ min (longest_password + 1) (length bytes) = ap length read ∙ length-take (longest_password + 1) bytes in
     (read ∙ take_all (longest_password + 1) bytes (omega (arith, taken, short)), short)
 
--- if they are too many, the input is too long
+-- if the bytes that were read are more than `longest_password`, the input is too long
 pub long_is_more : (input : Option (List ℕ)) (password : List ℕ) → IfSome input (λ bytes. password ≡ take (longest_password + 1) bytes)
     → longest_password < length password → IsTooLong input
 long_is_more None password read long = tt
@@ -145,7 +147,7 @@ read_on (Some all) None later bytes piece gone also = absurd gone
 read_on (Some all) (Some rest) None bytes piece gone also = absurd also
 read_on (Some all) (Some rest) (Some left) bytes piece gone also = gone ∙ ap (λ r. bytes ++ r) also ∙ sym (append_assoc bytes piece left)
 
--- the next piece is not longer than the room that is left
+-- after the next piece, the bytes that were read are still at most `most`
 pub piece_fits : (bytes buf piece : List ℕ) (count room most : ℕ) → length bytes ≤ most → count ≤ length buf → count ≡ length (take count buf)
     → length buf ≡ length (take room piece) → room ≡ min 4096 (most - length bytes) → length (bytes ++ take count buf) ≤ most
 piece_fits bytes buf piece count room most within of_buf taken same left =
@@ -160,19 +162,19 @@ piece_fits bytes buf piece count room most within of_buf taken same left =
 abbrev pub IsReadTo : Option (List (List ℕ)) → List (List ℕ) → ℕ → Type 0
 IsReadTo known words index = IfSome known (λ all. words ++ drop index all ≡ drop 1 all)
 
--- before the first word nothing is read
+-- `IsReadTo` holds at the start: no words so far, and index 1
 pub none_read : (known : Option (List (List ℕ))) → IsReadTo known [] 1
 none_read None = tt
 none_read (Some all) = refl
 
--- past the last argument there is nothing left to read
+-- if there is no argument at an index, no arguments are left from this index on
 rest_past : (all : List (List ℕ)) (index : ℕ) → slice_get all index ≡ None →
     ((x : List ℕ) × (index < length all) × (slice_get all index ≡ Some x) × (get_or all index x ≡ x)) ⊎ ((length all ≤ index) × (slice_get all index ≡ None)) →
     drop index all ≡ []
 rest_past all index none (inl (x, within, some, same)) = absurd (cc (none, some))
 rest_past all index none (inr (past, still)) = drop_all index all past
 
--- where no argument was found, all are read
+-- if no argument was found at the index, the words so far are all words of the command line
 pub all_read : (known : Option (List (List ℕ))) (words : List (List ℕ)) (index : ℕ) → IsReadTo known words index → IsArgument known index None →
     AreWords known words
 all_read None words index read found = tt
@@ -190,7 +192,7 @@ one_more (Some all) words index bytes read found =
     ∙ sym (drop_more all index [] (slice_get_within all index bytes.items (sym found))))
     ∙ read
 
--- an argument that is not UTF-8 is one after the program's name
+-- if an argument at an index above 0 is not UTF-8, `HasNoText` holds of the arguments
 pub no_text : (known : Option (List (List ℕ))) (index : ℕ) (bytes : Vec ℕ Global) → 0 < index → IsArgument known index (Some bytes) →
     (IsUtf8 bytes.items → ⊥) → HasNoText known
 no_text None index bytes later found none = tt

@@ -34,18 +34,18 @@ use Rattle.argon2.specs.declared.limits.Unverified.TheVariants as unverified
 abbrev nothing : Bor (List ℕ) → Bor (List ℕ)
 nothing some = record some { now = [] }
 
--- the answer TooCostly means above the limits
+-- if the answer is TooCostly, `costly` is true
 above : (costly : Bool) (Answers : Result Bool Error → Type 0) → AnswersWithin costly Answers (Err unverified.TooCostly) → costly ≡ true
 above true Answers h = refl
 above false Answers h = absurd h
 
--- above the limits the only answer is TooCostly
+-- if `costly` is true, the answer is TooCostly
 too_costly : (costly : Bool) (Answers : Result Bool Error → Type 0) (result : Result Bool Unverified) → costly ≡ true
     → AnswersWithin costly Answers result → result ≡ Err unverified.TooCostly
 too_costly true Answers result e h = h
 too_costly false Answers result e h = absurd (cc)
 
--- what is too costly spells something, and all that it spells is above a limit
+-- a text that is checked with the answer TooCostly decodes to a value, and each value it decodes to is above a limit
 is_too_costly_text : (encoded : Bor (List ℕ)) (password : List ℕ) → CheckAnswers encoded.now password (Err unverified.TooCostly)
     → IsTooCostly encoded.now
 is_too_costly_text encoded password h = (
@@ -53,7 +53,7 @@ is_too_costly_text encoded password h = (
   λ d spells. above (is_too_costly default_limits d) _ (h.spelled d (nothing encoded) refl spells),
 )
 
--- checking such a text has no other answer than TooCostly
+-- if `IsTooCostly` is true of a text, checking it has no other answer than TooCostly
 no_other_answer : {A : Type 0} (encoded : Bor (List ℕ)) (password : List ℕ) (result : Result Bool Unverified) → IsTooCostly encoded.now
     → CheckAnswers encoded.now password result → (result ≡ Err unverified.TooCostly → ⊥) → A
 no_other_answer encoded password result costly h other =
@@ -62,7 +62,7 @@ no_other_answer encoded password result costly h other =
 
 -- ---- commands
 
--- why a text was not verified is a fault of the command that checks it
+-- the reason why `check` did not verify a text is one of the command's faults
 pub check_fault : (encoded : Bor (List ℕ)) (input : Option (List ℕ)) (password : List ℕ) (why : Unverified) → IsShortPassword input password
     → CheckAnswers encoded.now password (Err why) → MayFail (Check encoded) input (fault_of why)
 check_fault encoded input password unverified.TooCostly is h = is_too_costly_text encoded password h
@@ -84,10 +84,11 @@ nothing_costly words costly = none costly.command costly.is_command costly.asks_
   none (New config salt) is costly = absurd is
   none (Check encoded) is costly = absurd is
 
--- two settings that the same words name have the same costs
+-- two numbers that the same word stands for are equal
 same_number : (word : List ℕ) (one other : ℕ) → IsNumber word one → IsNumber word other → one ≡ other
 same_number word one other is also = sym is.1 ∙ also.1
 
+-- two settings that the same words name are both above a limit, or both within the limits
 same_costs : (words : List (List ℕ)) (one other : Config) → AreSettings words one → AreSettings words other
     → is_above_limits one ≡ is_above_limits other
 same_costs words one other is also =
@@ -100,7 +101,7 @@ same_costs words one other is also =
 other_name : {A : Type 0} {one other : List ℕ} (place : ℕ) → one ≡ other → (slice_index_or one place 0 ≡ slice_index_or other place 0 → ⊥) → A
 other_name place same differ = absurd (differ (ap (λ name. slice_index_or name place 0) same))
 
--- words of the tool that ask for too much do so whichever command they are taken for
+-- if words are `new` with settings above a limit, each command of the tool with these words asks for too much
 other_new : (words : List (List ℕ)) (config : Config) (salt : List ℕ) (other : Command) → IsNew words config salt → is_above_limits config ≡ true
     → IsCommand Tool words other → AsksTooMuch other
 other_new words config salt (Hash config' salt') is costly also = other_name 0 (sym is.name ∙ also.name) (λ same. omega (arith, same))
@@ -109,6 +110,7 @@ other_new words config salt (Rehash config' encoded) is costly also = let one = 
 other_new words config salt (New config' salt') is costly also = sym (same_costs words config config' is.settings also.settings) ∙ costly
 other_new words config salt (Check encoded) is costly also = let one = is.count in let two = also.count in absurd (omega (arith, one, two))
 
+-- if words are `check` of a text that is too costly, each command of the tool with these words asks for too much
 other_check : (words : List (List ℕ)) (encoded : List ℕ) (other : Command) → IsCheck words encoded → IsTooCostly encoded
     → IsCommand Tool words other → AsksTooMuch other
 other_check words encoded (Hash config salt) is costly also = let one = is.count in let two = also.count in absurd (omega (arith, one, two))
@@ -117,6 +119,7 @@ other_check words encoded (Rehash config encoded') is costly also = let one = is
 other_check words encoded (New config salt) is costly also = let one = is.count in let two = also.count in absurd (omega (arith, one, two))
 other_check words encoded (Check encoded') is costly also = subst IsTooCostly (is.text ∙ sym also.text) costly
 
+-- if a command of the tool asks for too much, each command of the tool with the same words asks for too much
 of_tool : (words : List (List ℕ)) (one other : Command) → IsCommand Tool words one → AsksTooMuch one → IsCommand Tool words other → AsksTooMuch other
 of_tool words (Hash config salt) other is costly also = absurd costly
 of_tool words (Verify encoded) other is costly also = absurd costly
@@ -129,7 +132,7 @@ asks : (program : Program) (words : List (List ℕ)) (command : Command) → Are
 asks Argon2 words command costly is = nothing_costly words costly
 asks Tool words command costly is = of_tool words costly.command command costly.is_command costly.asks_too_much is
 
--- such a command has no answer
+-- a command that asks for too much has no answer
 unanswered : {A : Type 0} (command : Command) (input : Option (List ℕ)) (answer : Answer) → AsksTooMuch command → IsAnswer command input answer → A
 unanswered (Hash config salt) input answer costly is = absurd costly
 unanswered (Verify encoded) input answer costly is = absurd costly
@@ -143,11 +146,12 @@ pub no_answer : {A : Type 0} (program : Program) (words : List (List ℕ)) (inpu
     → IsCommand program words command → IsAnswer command input answer → AreTooCostly program words → A
 no_answer program words input command answer is answers costly = unanswered command input answer (asks program words command costly is) answers
 
--- and it fails for that reason, unless the password cannot be read
+-- an error of reading the password may be reported before TooCostly
 long_fault : (input : Option (List ℕ)) (error : Error) → IsReadingError input error → MayPrecede (Refused error)
 long_fault input error (inl short) = inr (inr (inl (ap Refused short)))
 long_fault input error (inr long) = inr (inr (inr (ap Refused long.0)))
 
+-- a command that asks for too much fails with TooCostly, or with a fault of reading the password
 fails_so : (command : Command) (input : Option (List ℕ)) (fault : Fault) → AsksTooMuch command → MayFail command input fault → MayPrecede fault
 fails_so (Hash config salt) input fault costly may = absurd costly
 fails_so (Verify encoded) input fault costly may = absurd costly
@@ -171,17 +175,17 @@ fails_costly program words input command fault is may costly = fails_so command 
 
 -- ---- faults
 
--- the statuses of both programs begin with 0 to 4
+-- 0 to 4 are statuses of both programs
 pub below_five : (program : Program) (status : ℕ) → status < 5 → status < statuses_of program
 below_five Argon2 status low = low
 below_five Tool status low = omega (arith, low)
 
--- 5 is a status of a program whose words can ask for too much
+-- if a program's words ask for too much, 5 is a status of the program
 five : (program : Program) (words : List (List ℕ)) (status : ℕ) → AreTooCostly program words → status ≡ 5 → status < statuses_of program
 five Argon2 words status costly e = nothing_costly words costly
 five Tool words status costly e = omega (arith, e)
 
--- the status of a fault is 2, 3 or 4, or 5 if the words ask for too much
+-- the status of a fault is below `statuses_of program`, if the fault is TooCostly only for words that ask for too much
 pub fault_bounded : (program : Program) (words : List (List ℕ)) (fault : Fault) (status : ℕ) → status ≡ fault_status fault
     → (fault ≡ TooCostly → AreTooCostly program words) → status < statuses_of program
 fault_bounded program words (Refused error) status e costly = below_five program status (omega (arith, e))
@@ -202,7 +206,7 @@ fault_above OutputShort status e = omega arith
 pub no_fault : {A : Type 0} (fault : Fault) (status : ℕ) → status ≡ fault_status fault → status < 2 → A
 no_fault fault status e low = let above = fault_above fault status e in absurd (omega (arith, above, low))
 
--- 3 is the status of wrong words alone
+-- only the fault Usage has the status 3
 pub at_three : (fault : Fault) (status : ℕ) → status ≡ fault_status fault → status ≡ 3 → fault ≡ Usage
 at_three (Refused error) status e three = absurd (omega arith)
 at_three Usage status e three = refl
@@ -211,7 +215,7 @@ at_three TooCostly status e three = absurd (omega arith)
 at_three Output status e three = absurd (omega arith)
 at_three OutputShort status e three = absurd (omega arith)
 
--- 5 is that of a text above the limits
+-- only the fault TooCostly has the status 5
 pub at_five : (fault : Fault) (status : ℕ) → status ≡ fault_status fault → status ≡ 5 → fault ≡ TooCostly
 at_five (Refused error) status e five = absurd (omega arith)
 at_five Usage status e five = absurd (omega arith)
@@ -220,7 +224,7 @@ at_five TooCostly status e five = refl
 at_five Output status e five = absurd (omega arith)
 at_five OutputShort status e five = absurd (omega arith)
 
--- 2 is that of an error, before anything was written, and of an output that lacked memory
+-- 2 is the status of an error before anything was written, and of an output that lacked memory
 pub at_two : (program : Program) (fault : Fault) (status : ℕ) (words : List (List ℕ)) (input before after : Option (List ℕ)) → status ≡ fault_status fault →
     ((error : Error) → fault ≡ Refused error → MayFailWith program words input error) → (fault ≡ OutputShort → HasAnswer program words input) →
     (IsBeforeOutput fault → Keeps before after) → status ≡ 2 → IsShortOrFails program words input before after
@@ -231,7 +235,7 @@ at_two program TooCostly status words input before after e refused short kept tw
 at_two program Output status words input before after e refused short kept two = absurd (omega arith)
 at_two program OutputShort status words input before after e refused short kept two = inr (short refl)
 
--- so what is equivalent to the fault Usage is equivalent to the status 3
+-- if P is equivalent to the fault Usage, P is equivalent to the status 3
 pub usage_status : (fault : Fault) (status : ℕ) (P : Type 0) → status ≡ fault_status fault →
     (let r : Result ℕ Fault = Err fault in r ≡ Err Usage) ↔ P → (status ≡ 3) ↔ P
 usage_status fault status P e h = (
@@ -255,17 +259,17 @@ module _ {program : Program} {words : List (List ℕ)} {input before after : Opt
   pub answered_bounded : Answered program words input before after status → status < statuses_of program
   answered_bounded h = let below = answered_below h in below_five program status (omega (arith, below))
 
-  -- it is no status from 2 on
+  -- a run that answers has no status `other` that is 2 or more
   pub answered_not : {A : Type 0} (other : ℕ) → 2 ≤ other → Answered program words input before after status → status ≡ other → A
   answered_not other high h same = let below = answered_below h in absurd (omega (arith, below, high, same))
 
-  -- the words of a run that answers are those of a command
+  -- for a run that answers, status 3 is equivalent to words of no command, since neither is possible
   pub answered_usage : Answered program words input before after status → (status ≡ 3) ↔ IsNoCommand program words
   answered_usage h = (answered_not 3 (omega arith) h, λ none. absurd (none h.command h.is_command))
 
 -- ---- faults that are passed on, and what is known of accepted values
 
--- what holds of a fault that is passed on
+-- if a result is an error equal to `fault` and P holds of `fault`, P holds of the result's error
 pub passed_on : {A E : Type 0} (result : Result A E) (fault : E) (P : E → Type 0) →
     IsErr result × IsErrAnd result (λ other. other ≡ fault) → P fault → IfErr result P
 passed_on (Ok _) fault P h p = tt
@@ -276,28 +280,28 @@ pub told : {A E : Type 0} (result : Result A E) (fault : E) (P : E → Type 0) �
 told (Ok _) fault P h p = absurd h.1
 told (Err other) fault P h p = subst P (sym h.1) p
 
--- known bytes are kept where nothing is done to them
+-- if nothing is done to a stream, its known bytes are kept
 pub untouched : (known : Option (List ℕ)) → Keeps known known
 untouched None = tt
 untouched (Some bytes) = refl
 
--- where the password cannot be read, memory may have been refused
+-- a command may fail with Input, or with OutOfMemory if that may be its error
 pub read_fault : (fault : Fault) (command : Command) (input : Option (List ℕ)) → (fault ≡ Input) ⊎ (fault ≡ Refused OutOfMemory)
     → MayBeError command input OutOfMemory → MayFail command input fault
 read_fault fault command input (inl failed) may = subst (MayFail command input) (sym failed) tt
 read_fault fault command input (inr short) may = subst (MayFail command input) (sym short) may
 
--- an error among the faults of a command's answer is the command's
+-- if a command may fail with the fault Refused error, the command's words may fail with this error
 pub is_refused : (program : Program) (words : List (List ℕ)) (input : Option (List ℕ)) (command : Command) (fault : Fault) → IsCommand program words command
     → MayFail command input fault → (error : Error) → fault ≡ Refused error → MayFailWith program words input error
 is_refused program words input command fault is may error refused =
     record { command = command; is_command = is; may_fail = subst (MayFail command input) refused may }
 
--- and none of them is the output's
+-- no command's answer fails with OutputShort (by `MayFail`)
 pub is_no_output : {A : Type 0} (fault : Fault) (command : Command) (input : Option (List ℕ)) → MayFail command input fault → fault ≡ OutputShort → A
 is_no_output fault command input may short = absurd (subst (MayFail command input) short may)
 
--- what is known of a value that is `Ok`, since an error would be `Err`
+-- an `Ok` value has the property P, since an error would have made it `Err`
 pub at_accepted : {A : Type 0} (error : Option Error) (P : Type 0) (value : A) →
     MatchOption error P (λ (e : Error). let r : Result A Error = Ok value in r ≡ Err e) → P
 at_accepted None P value h = h
@@ -313,7 +317,7 @@ same_error fault other e = cc
 pub status_is_no_usage : {A : Type 0} (status : ℕ) → (let r : Result ℕ Fault = Ok status in r ≡ Err Usage) → A
 status_is_no_usage status e = absurd (cc)
 
--- a fault of a command's answer is not Usage either
+-- no command's answer fails with Usage (by `MayFail`)
 pub answer_is_no_usage : {A : Type 0} (fault : Fault) (command : Command) (input : Option (List ℕ)) → MayFail command input fault → fault ≡ Usage → A
 answer_is_no_usage fault command input may usage = absurd (subst (MayFail command input) usage may)
 
@@ -334,6 +338,6 @@ one_more_piece a b c bytes done count within before fits piece =
     let joined = ap (λ rest. take done bytes ++ rest) (take-take count (length bytes - done) (drop done bytes) (omega (arith, most, fits))) ∙ sym (take-add done count bytes) in
     (omega (arith, within, most, fits), subst (Appends a c) joined (Appends-trans a b c _ _ before piece))
 
--- if a writer then took nothing, it has the same bytes as before
+-- if a writer took a front of `bytes` and then nothing, it took a front of `bytes` in all
 pub front_kept : (a b c : Option (List ℕ)) (bytes : List ℕ) → AppendsFront a b bytes → Keeps b c → AppendsFront a c bytes
 front_kept a b c bytes front kept = (front.0, Appends-kept a b c _ front.1 kept)

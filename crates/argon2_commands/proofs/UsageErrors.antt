@@ -1,4 +1,4 @@
--- What is wrong with the arguments.
+-- Arguments with a usage error are those of no command.
 use Rattle.std.proofs.Common.{◌≡◌, ◌<◌, ◌+◌, ℕ, zero, suc, List, [], ◌∷◌, length, slice_index_or, nat_eq, cond, Option, None, Some, MatchOption}
 use Rattle.std.proofs.Common.{IsSome, Ok, arith, string_bytes, sym, refl, ◌∙◌, ap, subst, ◌%◌, false, Result, Err, inl, inr, is_ok}
 use Rattle.std.specs.declared.alloc.Global.{Global}
@@ -28,12 +28,12 @@ use Rattle.argon2_commands.specs.declared.usage.UsageError.TheVariants as errors
 
 -- ---- arguments that are not what they have to be are those of no command
 
--- the text of a word is the word at its place
+-- the word at a place of `texts_of words` is the text of the string at this place of `words`
 pub word-texts_of : (words : List (String Global)) (place : ℕ) (s : String Global) (text : List ℕ) → place < length words
     → s ≡ slice_index_or words place s → text ≡ string_bytes s → word (texts_of words) place ≡ text
 word-texts_of words place s text h is e = get_or-map string_bytes words place s [] h ∙ ap string_bytes (sym is) ∙ sym e
 
--- a number was read from a word that fits
+-- if a text is a number, reading the text returned a number
 pub number_read : (text : List ℕ) (read : Option ℕ) → MatchOption read ((n : ℕ) → IsNumber text n → ⊥) (IsNumber text)
     → ((n : ℕ) × IsNumber text n) → IsSome read
 number_read text None none fits = absurd (none fits.0 fits.1)
@@ -99,7 +99,7 @@ module _ (words : List (List ℕ)) where
   right Tool (commands.New config salt) is = (New, record { is = (tt, is.name); count = is.count; fit = new_fits config salt is })
   right Tool (commands.Check encoded) is = (Check, record { is = (tt, is.name); count = is.count; fit = text_fits })
 
--- if the arguments of a command are what they have to be, its settings are too
+-- arguments that fit one name fit an equal name; the settings of fitting arguments fit too
 pub fits_as : (words : List (List ℕ)) (name other : Name) → FitBelow (kinds_of name) words (length (kinds_of name)) → name ≡ other
     → FitBelow (kinds_of other) words (length (kinds_of other))
 fits_as words name other fit same = subst (λ n. FitBelow (kinds_of n) words (length (kinds_of n))) same fit
@@ -130,7 +130,7 @@ same_name : {word : List ℕ} (one other : Name) → word ≡ name_text one → 
 same_name one other is also =
     sym (first_letter one) ∙ ap (λ text. named_by (slice_index_or text 0 0)) (sym is ∙ also) ∙ first_letter other
 
--- so what is wrong with arguments keeps them from being any command
+-- arguments with a usage error are those of no command
 pub no_command : (program : Program) (words : List (List ℕ)) (error : UsageError) → IsUsageError program words error → IsNoCommand program words
 no_command program words errors.Command none command is =
     let it = right words program command is in none it.0 it.1.is.0 it.1.is.1
@@ -144,11 +144,11 @@ no_command program words (errors.Argument place kind) (name, named, count, first
 
 -- ---- texts that are pairs of hexadecimal digits
 
--- std's test of a digit is that of the decoding
+-- std's test of a hexadecimal digit is equal to the test that `decode_of` uses
 pub same_test : (c : ℕ) → is_ascii_hexdigit c ≡ is_hex_digit c
 same_test c = grind (arith, nat_tests)
 
--- a text with another letter does not decode
+-- a text with a letter that is no hexadecimal digit does not decode
 other_letter : (text : List ℕ) (place : ℕ) (decoded : Result (List ℕ) FromHexError) → decode_of text ≡ decoded → place < length text
     → is_hex_digit (slice_index_or text place 0) ≡ false → false ≡ is_ok decoded
 other_letter text place (Ok bytes) e within other = let digit = (decode_of-ok text bytes e).1 place 0 within in absurd (cc (digit, other))
@@ -159,15 +159,16 @@ pub no_pairs : (text : List ℕ) (place : ℕ) → place < length text → is_as
 no_pairs text place within other =
     other_letter text place (decode_of text) refl within (sym (same_test (slice_index_or text place 0)) ∙ other)
 
--- what the digits of a word name is what its text decodes to
+-- a result whose `result_ok` is Some bytes is Ok bytes
 of_result : {E : Type 0} (read : Result (List ℕ) E) (bytes : List ℕ) → result_ok read ≡ Some bytes → read ≡ Ok bytes
 of_result (Ok other) bytes some = let same : other ≡ bytes = cc in ap Ok same
 of_result (Err fault) bytes some = absurd (cc)
 
+-- a word decodes to the same bytes as an equal text
 pub decoded : (word text bytes : List ℕ) → result_ok (decode_of text) ≡ Some bytes → word ≡ text → decode_of word ≡ Ok bytes
 decoded word text bytes some same = rw same (of_result _ bytes some)
 
--- a text of digits alone decodes exactly where it has an even number of them
+-- a text of hexadecimal digits decodes exactly if its length is even
 pub pairs : (text : List ℕ) → AllPass is_hex_digit text → nat_eq (length text % 2) 0 ≡ is_ok (decode_of text)
 pairs text digits = elim (cases_eq (length text % 2) 1) [
   | inl odd ↦ rw odd refl

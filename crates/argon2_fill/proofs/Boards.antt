@@ -28,7 +28,7 @@ use Rattle.argon2_standard.specs.contracts.version.Version as version
 
 -- ---- the states of lanes, and how an event changes them
 
--- the first waiting lane, counted from j
+-- if lane n of xs waits and no lane below n waits, the search that counts from j finds j + n
 least_from : (xs : List Place) (j n : ℕ) → ((k : ℕ) → k < n → slice_get xs k ≢ Some Waiting) → slice_get xs n ≡ Some Waiting
     → position_from is_waiting j xs ≡ Some (j + n)
 least_from [] j n gone here = cc
@@ -39,34 +39,34 @@ least_from (Out ∷ xs) j (suc n) gone here = least_from xs (j + 1) n (λ k belo
 least_from (Done ∷ xs) j zero gone here = cc
 least_from (Done ∷ xs) j (suc n) gone here = least_from xs (j + 1) n (λ k below. gone (suc k) (omega arith)) here ∙ ap Some (omega arith)
 
--- where no lane waits, the search for one finds none, from whatever number it counts
+-- if no lane waits, the search finds no lane, whatever number j the search counts from
 none_from : (xs : List Place) (j : ℕ) → ((k : ℕ) → slice_get xs k ≢ Some Waiting) → position_from is_waiting j xs ≡ None
 none_from [] j gone = refl
 none_from (Waiting ∷ xs) j gone = absurd (gone 0 refl)
 none_from (Out ∷ xs) j gone = none_from xs (j + 1) (λ k. gone (suc k))
 none_from (Done ∷ xs) j gone = none_from xs (j + 1) (λ k. gone (suc k))
 
--- the least waiting lane, where no lane below it waits
+-- if lane n waits and no lane below n waits, the least waiting lane is n
 pub least_waiting-Some : (xs : List Place) (n : ℕ) → ((k : ℕ) → k < n → slice_get xs k ≢ Some Waiting) → slice_get xs n ≡ Some Waiting
     → least_waiting xs ≡ Some n
 least_waiting-Some xs n gone here = least_from xs 0 n gone here ∙ ap Some (omega arith)
 
--- no lane waits
+-- if no lane waits, there is no least waiting lane
 pub least_waiting-None : (xs : List Place) → ((k : ℕ) → slice_get xs k ≢ Some Waiting) → least_waiting xs ≡ None
 least_waiting-None xs gone = none_from xs 0 gone
 
--- one event more
+-- replaying a log with one more event e is replaying the log and then applying e
 pub replay-more : (lanes : ℕ) (log : List Event) (e : Event) (places : List Place) → replay lanes log ≡ Some places
     → replay lanes (log ++ e ∷ []) ≡ after_event e places
 replay-more lanes log e places before = fold-append and_then _ log (e ∷ []) ∙ ap (λ o. and_then o e) before
 
--- after a write the element there is the new one
+-- after x is written at index i, the element at i is x
 pub slice_get-set_same : {X : Type 0} (xs : List X) (i : ℕ) (x : X) → i < length xs → slice_get (set xs i x) i ≡ Some x
 slice_get-set_same [] i x within = absurd (omega arith)
 slice_get-set_same (y ∷ xs) zero x within = refl
 slice_get-set_same (y ∷ xs) (suc i) x within = slice_get-set_same xs i x (omega arith)
 
--- and the others stay
+-- a write at index i does not change the element at any other index k
 pub slice_get-set_other : {X : Type 0} (xs : List X) (i k : ℕ) (x : X) → k ≢ i → slice_get (set xs i x) k ≡ slice_get xs k
 slice_get-set_other [] i k x other = refl
 slice_get-set_other (y ∷ xs) zero zero x other = absurd (other refl)
@@ -74,27 +74,27 @@ slice_get-set_other (y ∷ xs) zero (suc k) x other = refl
 slice_get-set_other (y ∷ xs) (suc i) zero x other = refl
 slice_get-set_other (y ∷ xs) (suc i) (suc k) x other = slice_get-set_other xs i k x (λ same. other (ap suc same))
 
--- an event of a lane uses up one of those that are left
+-- changing lane i from `old` to `new` takes `events_left old` from the sum of events left and adds `events_left new`
 pub events_left-set : (xs : List Place) (i : ℕ) (old new : Place) → slice_get xs i ≡ Some old
     → sum_by events_left (set xs i new) + events_left old ≡ sum_by events_left xs + events_left new
 events_left-set xs i old new here =
     rw (get_or_from_slice_get xs i old old here) at (sum_by-set events_left xs i new old (slice_get_within xs i old here))
 
--- a lane that waits has two events left
+-- if some lane waits, at least two events are left
 pub left-waiting : (xs : List Place) (i : ℕ) → slice_get xs i ≡ Some Waiting → 2 ≤ sum_by events_left xs
 left-waiting xs i here = let e = events_left-set xs i Waiting Done here in omega arith
 
--- a lane that is out has one
+-- if some lane is out, at least one event is left
 pub left-out : (xs : List Place) (i : ℕ) → slice_get xs i ≡ Some Out → 1 ≤ sum_by events_left xs
 left-out xs i here = let e = events_left-set xs i Out Done here in omega arith
 
--- ---- the slots of a board, as a take and a put leave them
+-- ---- the slots of a board after a take and after a put
 
--- the state of a lane is that of its slot
+-- if slot s stands at index k, the state of lane k is `place_in s`
 pub place_at : (slots : List Slot) (k : ℕ) (s : Slot) → slice_get slots k ≡ Some s → slice_get (map place_in slots) k ≡ Some (place_in s)
 place_at slots k s here = slice_get-map place_in slots k ∙ ap (option_map place_in) here
 
--- the state of a slot just written
+-- after slot s is written at index i, the state of lane i is `place_in s`
 written-same : (slots : List Slot) (i : ℕ) (s : Slot) → i < length slots → slice_get (map place_in (set slots i s)) i ≡ Some (place_in s)
 written-same slots i s within = place_at (set slots i s) i s (slice_get-set_same slots i s within)
 
@@ -105,7 +105,7 @@ written-other slots i k s other =
     ∙ ap (option_map place_in) (slice_get-set_other slots i k s other)
     ∙ sym (slice_get-map place_in slots k)
 
--- a write of a non-waiting slot makes no lane wait
+-- after a slot that does not wait is written at i, lane k does not wait if k is i or lane k did not wait before
 still-gone : (slots : List Slot) (i k : ℕ) (s : Slot) → i < length slots → place_in s ≢ place.Waiting → (k ≢ i
     → slice_get (map place_in slots) k ≢ Some place.Waiting) → slice_get (map place_in (set slots i s)) k ≢ Some place.Waiting
 still-gone slots i k s within away before waits =
@@ -117,7 +117,7 @@ still-gone slots i k s within away before waits =
       | inr other ↦ before other.1 (sym (written-other slots i k s other.1) ∙ waits)
     ]
 
--- after one slot is written, `IsSlot` still holds of each
+-- if `IsSlot` holds of all slots, and of s for lane i, then `IsSlot` holds of all slots after s is written at i
 each-set : (job : Job) (slots : List Slot) (i : ℕ) (s : Slot) → i < length slots → ((k : ℕ) (t : Slot) → slice_get slots k ≡ Some t → IsSlot job k t)
     → IsSlot job i s → (k : ℕ) (t : Slot) → slice_get (set slots i s) k ≡ Some t → IsSlot job k t
 each-set job slots i s within each here k t at =
@@ -135,7 +135,7 @@ pub lanes-more : {job : Job} {next : ℕ} {slots : List Slot} {log : List Event}
     → next ≢ n → next < job.setting.lanes
 lanes-more n b all other = let h = b.in_range in omega (arith, all, other)
 
--- the lane of least number that waits is `next`
+-- if `next` is below the number of lanes, the least waiting lane is `next`
 pub lanes-least : {job : Job} {next : ℕ} {slots : List Slot} {log : List Event} → AreLanes job next slots log → next < job.setting.lanes
     → least_waiting (map place_in slots) ≡ Some next
 lanes-least {next} {slots} b more = least_waiting-Some (map place_in slots) next b.gone (b.waits next (omega arith) more)
@@ -148,7 +148,7 @@ lanes-none {job} {next} {slots} b all =
     let within = slice_get_within (map place_in slots) k place.Waiting waits in
     b.gone k (omega (arith, length-map slots place_in, b.lanes)) waits)
 
--- what is kept of a board's lanes stays true when lane `next` is taken and `next` moves on
+-- the invariant of a board's lanes still holds after lane `next` is taken and `next` moves on
 pub lanes-take : {job : Job} {next : ℕ} {slots : List Slot} {log : List Event} → AreLanes job next slots log → next < job.setting.lanes
     → AreLanes job (next + 1) (set slots next slot.Out) (log ++ Take next ∷ [])
 lanes-take {job} {next} {slots} {log} b more =
@@ -167,7 +167,7 @@ lanes-take {job} {next} {slots} {log} b more =
       each = each-set job slots next slot.Out within b.each tt;
     }
 
--- what is kept of a board's lanes stays true when a lane that is out is put back filled
+-- the invariant of a board's lanes still holds after a lane that is out is put back filled
 pub lanes-put : {job : Job} {next : ℕ} {slots : List Slot} {log : List Event} (lane : ℕ) (s : SegmentValue) → AreLanes job next slots log
     → slice_get slots lane ≡ Some slot.Out → s.blocks ≡ segment_at job.setting job.pass job.slice lane
     → AreLanes job next (set slots lane (slot.Done s)) (log ++ Put lane ∷ [])
@@ -189,7 +189,7 @@ lanes-put {job} {next} {slots} {log} lane s b out words =
       each = each-set job slots lane (slot.Done s) within b.each words;
     }
 
--- what stands in the slot of the least waiting lane
+-- if `next` is below the number of lanes, the slot t read at `next` waits, and `IsSlot` holds of t
 pub lanes-waiting : {job : Job} {next : ℕ} {slots : List Slot} {log : List Event} (t : Slot) → AreLanes job next slots log → next < job.setting.lanes
     → t ≡ get_or slots next t → (place_in t ≡ place.Waiting) × IsSlot job next t
 lanes-waiting {job} {next} {slots} t b more read =
@@ -198,12 +198,12 @@ lanes-waiting {job} {next} {slots} t b more read =
     let e : Some (place_in t) ≡ Some place.Waiting = sym (place_at slots next t here) ∙ b.waits next (omega arith) more in
     (cc, b.each next t here)
 
--- how many events are left after a slot is written
+-- a write of slot s over state p takes `events_left p` from the sum and adds `events_left (place_in s)`
 pub left-set : (slots : List Slot) (i : ℕ) (p : Place) (s : Slot) → slice_get (map place_in slots) i ≡ Some p
     → sum_by events_left (map place_in (set slots i s)) + events_left p ≡ sum_by events_left (map place_in slots) + events_left (place_in s)
 left-set slots i p s here = rw map-set (events_left-set (map place_in slots) i p (place_in s) here)
 
--- a slot read as out, at a lane of the board's own job, is out
+-- if the slot that was read at `lane` is `Slot.Out`, the board's slot of that lane is `Slot.Out`
 pub read-out : {job : Job} {next : ℕ} {slots : List Slot} {log : List Event} (own : Job) (lane : ℕ) (t : Slot) → AreLanes job next slots log
     → own ≡ job → lane < own.setting.lanes → t ≡ get_or slots lane t → t ≡ slot.Out → slice_get slots lane ≡ Some slot.Out
 read-out {slots} own lane t b same fits read is =
@@ -216,7 +216,7 @@ slot-out (slot.Waiting s) is = absurd (cc)
 slot-out slot.Out is = refl
 slot-out (slot.Done s) is = absurd (cc)
 
--- and if the lane is out, the slot that was read there is
+-- if the state of `lane` is out, the slot that was read at `lane` is `Slot.Out`
 pub out-read : {job : Job} {next : ℕ} {slots : List Slot} {log : List Event} (own : Job) (lane : ℕ) (t : Slot) → AreLanes job next slots log
     → own ≡ job → lane < own.setting.lanes → t ≡ get_or slots lane t → slice_get (map place_in slots) lane ≡ Some place.Out → t ≡ slot.Out
 out-read {slots} own lane t b same fits read out =
@@ -225,16 +225,16 @@ out-read {slots} own lane t b same fits read out =
     let e : Some (place_in t) ≡ Some place.Out = sym (place_at slots lane t here) ∙ out in
     slot-out t (let f : place_in t ≡ place.Out = cc in f)
 
--- an element below the length
+-- a list has an element at each index below its length
 slice_get_there : (xs : List SegmentValue) (k : ℕ) → k < length xs → (x : SegmentValue) × (slice_get xs k ≡ Some x)
 slice_get_there xs k within = (get_or xs k no_segment, slice_get-get_or xs k no_segment within)
 
--- the element behind a front
+-- in `front ++ x ∷ rest`, the element at index `length front` is x
 pub slice_get-middle : {X : Type 0} (front : List X) (x : X) (rest : List X) → slice_get (front ++ x ∷ rest) (length front) ≡ Some x
 slice_get-middle [] x rest = refl
 slice_get-middle (y ∷ front) x rest = slice_get-middle front x rest
 
--- where one slot is not done, not every lane is
+-- if the slot s that follows the done slots of xs is not done, not all lanes are done
 pub not-all-done : (xs : List SegmentValue) (s : Slot) (rest slots : List Slot) → map slot.Done xs ++ s ∷ rest ≡ slots → place_in s ≢ place.Done
     → AllDone (map place_in slots) → ⊥
 not-all-done xs s rest slots is other all =
@@ -244,20 +244,20 @@ not-all-done xs s rest slots is other all =
     let e : Some (place_in s) ≡ Some place.Done = sym (place_at slots (length front) s here) ∙ all (length front) (omega (arith, length-map slots place_in)) in
     other (let f : place_in s ≡ place.Done = cc in f)
 
--- the segment of a slot, where all are done
+-- if the slots are the segments xs as done slots, slot k is done and holds element k of xs
 there-done : (xs : List SegmentValue) (slots : List Slot) → map slot.Done xs ≡ slots → (k : ℕ) → k < length xs
     → (h : SegmentValue) × (slice_get xs k ≡ Some h) × (slice_get slots k ≡ Some (slot.Done h))
 there-done xs slots is k within =
     let (h, at) = slice_get_there xs k within in
     (h, at, ap (λ l. slice_get l k) (sym is) ∙ slice_get-map (λ s. slot.Done s) xs k ∙ ap (option_map (λ s. slot.Done s)) at)
 
--- where all slots are done, so is every lane
+-- if the slots are the segments xs as done slots, all lanes are done
 pub all-done : (xs : List SegmentValue) (slots : List Slot) → map slot.Done xs ≡ slots → AllDone (map place_in slots)
 all-done xs slots is k within =
     let t = there-done xs slots is k (omega (arith, length-map slots place_in, length-map xs (λ s. slot.Done s), ap length is)) in
     place_at slots k (slot.Done t.0) t.2
 
--- and the segments hold the slice
+-- if the slots are the segments xs as done slots, xs hold the blocks of the job's slice
 pub hold-slice : {job : Job} {next : ℕ} {slots : List Slot} {log : List Event} (xs : List SegmentValue) → AreLanes job next slots log
     → map slot.Done xs ≡ slots → HoldSlice job xs
 hold-slice {job} {slots} xs b is = record {
@@ -267,18 +267,18 @@ hold-slice {job} {slots} xs b is = record {
       ap (λ (s : SegmentValue). s.blocks) (get_or_from_slice_get xs k t.0 no_segment t.1) ∙ b.each k (slot.Done t.0) t.2;
 }
 
--- the places of segments that wait
+-- the states of n slots that hold waiting segments are n times `Waiting`
 pub waiting-all : (n : ℕ) (segments : List SegmentValue) → length segments ≡ n → map place_in (map slot.Waiting segments) ≡ replicate n place.Waiting
 waiting-all zero [] lanes = refl
 waiting-all zero (h ∷ segments) lanes = absurd (omega arith)
 waiting-all (suc n) [] lanes = absurd (omega arith)
 waiting-all (suc n) (h ∷ segments) lanes = ap (λ ps. place.Waiting ∷ ps) (waiting-all n segments (omega arith))
 
--- two events are left of each
+-- if n lanes wait, 2 * n events are left
 pub waiting-left : (n : ℕ) → sum_by events_left (replicate n place.Waiting) ≡ 2 * n
 waiting-left n = grind (arith, common_steps)
 
--- a board of segments that wait
+-- a new board, whose slots are ready segments that wait, with an empty log meets the invariant for `next` = 0
 pub lanes-new : (job : Job) (segments : List SegmentValue) (slots : List Slot) → slots ≡ map slot.Waiting segments → AreReady job segments
     → AreLanes job 0 slots []
 lanes-new job segments slots is ready =
@@ -309,9 +309,9 @@ none_out-waiting zero lane e = grind arith
 none_out-waiting (suc n) zero e = grind arith
 none_out-waiting (suc n) (suc lane) e = none_out-waiting n lane e
 
--- ---- what the derived `!=` of jobs tells
+-- ---- the derived `!=` of jobs says whether two jobs differ
 
--- the test that `==` makes, field by field
+-- the test that the derived `==` of jobs makes, field by field
 abbrev pub same_job : Job → Job → Bool
 same_job a b =
     pointwise eqb a.setting.prehash b.setting.prehash && (sameb variant.the_type a.setting.variant b.setting.variant
@@ -323,6 +323,6 @@ same_job a b =
 pub no_other_job : (a b : Job) → false ≡ not (same_job a b) → a ≡ b
 no_other_job a b e = search rules
 
--- and jobs for which `!=` holds are not
+-- jobs for which `!=` holds are not equal
 pub other_job : (a b : Job) → true ≡ not (same_job a b) → a ≡ b → ⊥
 other_job a b e same = search rules

@@ -17,7 +17,7 @@ use Rattle.argon2_memory.proofs.Slices.{get-blocks_of_lane, length-blocks_of_lan
 use Rattle.argon2_fill.proofs.Passes.{ready_first}
 use Rattle.argon2_fill.specs.Views.Chunks.{CanFill}
 
--- ---- one lane of a slice of the caller, and from slice to slice
+-- ---- filling one lane of a caller-provided slice, and going from slice to slice
 
 -- ---- one lane of a slice
 
@@ -26,11 +26,11 @@ module _ (s : Setting) (old : List (List ℕ)) (lane : ℕ) (long : length old �
   abbrev start : ℕ
   start = lane * s.segment_length
 
-  -- the slice with the lane's part replaced
+  -- the slice `old` with the lane's part replaced by `new`
   abbrev placed : List (List ℕ)
   placed = take start old ++ (new ++ drop s.segment_length (drop start old))
 
-  -- the slice is cut twice, and put together again
+  -- if `front` and `after` are the parts of `old` around the lane, `front`, `new` and `after` make up `placed`
   placed-is : (front rest after : List (List ℕ)) (at len : ℕ) → front ≡ take at old → rest ≡ drop at old → after ≡ drop len rest →
       at ≡ start → len ≡ s.segment_length → front ++ (new ++ after) ≡ placed
   placed-is front rest after at len f r a e n = rw (f, a, r, e, n) refl
@@ -62,7 +62,7 @@ module _ (s : Setting) (old : List (List ℕ)) (lane : ℕ) (long : length old �
       ∙ get_or-drop start old (s.segment_length + (i - start - s.segment_length)) []
       ∙ ap (λ n. get_or old n []) (omega (arith, h))
 
-  -- and the other lanes are as they were
+  -- in `placed`, every other lane l has the blocks that lane l has in `old`
   other-placed : (l : ℕ) → l < s.lanes → l ≢ lane → blocks_of_lane s placed l ≡ blocks_of_lane s old l
   other-placed l h ne =
       let a = length-blocks_of_lane s placed l length-placed h in
@@ -80,7 +80,7 @@ module _ (s : Setting) (old : List (List ℕ)) (lane : ℕ) (long : length old �
   others-stay front rest after at len f r a e n l h ne =
       ap (λ (b : List (List ℕ)). blocks_of_lane s b l) (placed-is front rest after at len f r a e n) ∙ other-placed l h ne
 
--- ---- the beginning
+-- ---- the first two blocks of a lane
 
 pub slice_begun : (s : Setting) → IsSetting s → (lane : ℕ) → lane < s.lanes → (old : List (List ℕ)) → length old ≡ s.segment_length → (x y : List ℕ) →
     x ≡ first_block s (record { pass = 0; lane = lane; column = 0 }) → y ≡ first_block s (record { pass = 0; lane = lane; column = 1 }) →
@@ -95,7 +95,7 @@ slice_begun s good lane fits (a ∷ b ∷ rest) long x y ex ey =
 
 -- ---- from slice to slice
 
--- if the job's slice, number k of 4, is filled beside the others, all are filled one slice further
+-- if the fill of slice k, the job's own, leaves `new`, then with `new` at k `AreFilledBelow` holds for the next slice
 pub filled_at : (j : Job) → IsJob j → (m : List (List (List ℕ))) → length m ≡ 4 → (k : ℕ) → j.slice ≡ k → (new : List (List ℕ)) →
     (HoldOthers j (among j (places_of_slices j.setting (remove m k))) → IsReadySlice j.setting j.pass j.slice (places_of_slices j.setting m k) →
     HoldsSlice j.setting j.pass j.slice (blocks_of_lane j.setting new)) →
@@ -113,7 +113,7 @@ filled_at j good m four k e new fills ready =
     (λ i lane ne. ap (λ l. lanes l lane) (get_or-set_other m j.slice i new [] ne))
     (λ lane fits. ap (λ l. lanes l lane) (get_or-set_same m j.slice new [] few) ∙ holds lane fits))
 
--- a fill beside three slices is one among all four
+-- `FillsAmong` with the other three slices of m implies `Fills` with all four slices of m
 pub fills_among : (j : Job) (m : List (List (List ℕ))) → j.slice < length m → (lane : ℕ) (old new : List (List ℕ)) →
     FillsAmong j lane (remove m j.slice) old new → Fills j lane (places_of_slices j.setting m) old new
 fills_among j m few lane old new fills held =

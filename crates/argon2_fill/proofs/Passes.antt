@@ -50,7 +50,7 @@ ready_first s good lane fits blocks n first =
           ∙ recurrence_first s (block_at s) lane i h')),
     )
 
--- slices of whole segments are ready for pass 0 once the segments of slice 0 are begun
+-- if slice 0 is ready for pass 0 and each segment has its full length, all four slices are ready for pass 0
 module _ (s : Setting) (places : Places) (long : (k lane : ℕ) → k < 4 → lane < s.lanes → length (places k lane) ≡ s.segment_length)
     (begun : IsReadySlice s 0 0 (places 0)) where
   ready_by : (k lane : ℕ) → k < 4 → lane < s.lanes → IsReady s 0 k lane (places k lane)
@@ -80,7 +80,7 @@ module _ (s : Setting) (good : IsSetting s) (m : MemoryValue) (shape : HasShape 
 
 -- ---- from one slice to the next, and what the slices write
 
--- slices filled up to the end of one are filled below the next, of the same pass or the next
+-- after the fill of a slice, `AreFilledBelow` holds for the next slice to fill, in the same pass or the next pass
 next-below : (s : Setting) (pass slice pass' slice' : ℕ) (places : Places) → IsNext pass slice pass' slice' →
     AreFilledBelow s pass (slice + 1) places → AreFilledBelow s pass' slice' places
 next-below s pass slice pass' slice' places (inl w) filled = record {
@@ -92,17 +92,17 @@ next-below s pass slice pass' slice' places (inr w) filled = record {
   above = λ k lane low high fits. let e : suc pass ≡ pass' = omega (arith, w.2) in rw (← e) (filled.below k lane (omega (arith, w.0)) fits);
 }
 
--- slices filled up to the end of number n, over all passes, are filled below number n + 1
+-- with slices numbered over all passes: after the fill of slice n, `AreFilledBelow` holds for slice n + 1
 pub next_slice : (s : Setting) (n : ℕ) (places : Places) → AreFilledBelow s (n / 4) (n % 4 + 1) places →
     AreFilledBelow s ((n + 1) / 4) ((n + 1) % 4) places
 next_slice s n places filled =
     let e : suc n ≡ n + 1 = omega arith in next-below s (n / 4) (n % 4) ((n + 1) / 4) ((n + 1) % 4) places (rw e at (is_next n)) filled
 
--- a factor times a sum of two is the sum of its products with both
+-- p times the sum of a and b is p times a plus p times b
 dist : (p a b c : ℕ) → c ≡ a + b → p * c ≡ p * a + p * b
 dist p a b c e = rw e (omega arith)
 
--- in p lanes the first n + 1 slices write what the first n do, and the blocks of slice number n
+-- in p lanes, the first n + 1 slices write as many blocks as the first n slices and slice number n together
 written_after : (p len n : ℕ) → 2 ≤ len → p * ((n + 1) * len - cond (n + 1 == 0) 0 2) ≡ p * (n * len - cond (n == 0) 0 2) + p * cond ((n / 4 == 0) &&
     (n % 4 == 0)) (len - 2) len
 written_after p len zero h = dist p (0 * len - 0) (len - 2) _ (omega arith)
@@ -113,15 +113,15 @@ written_after p len (suc m) h =
     (suc m / 4)) [ inl l ↦ inl l | inr l ↦ inr (omega (arith, l)) ]) in
     rw (a, b, c) (dist p (suc m * len - 2) len _ (let k : len ≤ suc m * len = omega arith in omega (arith, k, h)))
 
--- two additions modulo 2 ^ 64, one after the other, are one addition of both
+-- adding b and then d modulo 2 ^ 64 is adding b + d modulo 2 ^ 64
 pub add_written : (w b d x y : ℕ) → x ≡ (w + b) % 2 ^ 64 → y ≡ (x + d) % 2 ^ 64 → y ≡ (w + (b + d)) % 2 ^ 64
 add_written w b d x y e f = omega (arith, e, f)
 
--- one slice more writes the blocks of that slice in each lane
+-- the first n + 1 slices write as many blocks as the first n slices and, in each lane, slice number n together
 pub blocks_more : (s : Setting) (n : ℕ) → IsSetting s → blocks_written s (n + 1) ≡ blocks_written s n + s.lanes * blocks_in_slice s (n / 4) (n % 4)
 blocks_more s n good = written_after s.lanes s.segment_length n good.long_segments
 
--- all slices together write each block once a pass, except each lane's first two in pass 0
+-- all slices write passes * memory_blocks blocks, less the first two blocks of each lane in pass 0
 pub all_written : (s : Setting) → IsSetting s → blocks_written s (4 * s.passes) ≡ s.passes * memory_blocks s - 2 * s.lanes
 all_written s good =
     let some : (4 * s.passes == 0) ≡ false = ne_eqb (4 * s.passes) 0 (λ e. absurd (omega (arith, good.some_pass, e))) in
@@ -129,7 +129,7 @@ all_written s good =
     let split = dist s.lanes (4 * s.passes * s.segment_length - 2) 2 (4 * s.passes * s.segment_length) (omega (arith, most)) in
     rw some (omega (arith, split))
 
--- ---- the end
+-- ---- the blocks after the last pass
 
 -- a segment that is ready for a pass after the first holds the blocks of the pass before
 pub last_in : (pass : ℕ) (s : Setting) (slice lane : ℕ) (blocks : List (List ℕ)) → 0 < pass → IsReady s pass slice lane blocks
@@ -151,9 +151,9 @@ holds_last_pass s good m shape filled = λ lane column fits inside.
     (column % s.segment_length) (column % s.segment_length) [] (mod-lt column some) (omega arith)
     ∙ ap (λ c. block_at s (record { pass = s.passes - 1; lane = lane; column = c })) d)
 
--- ---- the last blocks
+-- ---- the last blocks of the lanes
 
--- one lane more is combined
+-- the xor of p lanes' last blocks, xored with lane p's last block, is the xor of the last blocks of p + 1 lanes
 pub combine_more : (lanes : Lanes) (len p : ℕ) (out next block : List ℕ) → out ≡ fold xor zero_block (last_blocks_in p len lanes) →
     block ≡ get_or (lanes p) (len - 1) [] → next ≡ xor out block → next ≡ fold xor zero_block (last_blocks_in (p + 1) len lanes)
 combine_more lanes len p out next block held read made =
@@ -163,7 +163,7 @@ combine_more lanes len p out next block held read made =
     ∙ sym (ap (λ (l : List (List ℕ)). fold xor zero_block l) (map-range_with_len_more last 0 p p (omega arith))
     ∙ fold-append xor zero_block (last_blocks_in p len lanes) (last p ∷ []))
 
--- the last block of a lane in a memory
+-- the block at a lane's last column is the last block of the lane's segment in slice 3
 pub last_of_lane : (m : MemoryValue) (lane column : ℕ) → 0 < m.segment_length → column + 1 ≡ 4 * m.segment_length →
     block_of m lane column ≡ get_or (places_in m.slices 3 lane) (m.segment_length - 1) []
 last_of_lane m lane column some e =
@@ -174,7 +174,7 @@ last_of_lane m lane column some e =
     omega (arith, d, p, is) in
     rw (q, r) refl
 
--- last blocks that are of the last pass are the setting's last blocks
+-- if each lane's last block is its block of the last pass, `last_blocks_in` gives `last_blocks` of the setting
 pub last_blocks-are : (s : Setting) (lanes : Lanes) → ((lane : ℕ) → lane < s.lanes →
     get_or (lanes lane) (s.segment_length - 1) [] ≡ block_at s (record { pass = s.passes - 1; lane = lane; column = lane_length s - 1 })) →
     last_blocks_in s.lanes s.segment_length lanes ≡ last_blocks s
@@ -184,7 +184,7 @@ last_blocks-are s lanes each =
     (length-map-range_with_len (λ lane. get_or (lanes lane) (s.segment_length - 1) []) 0 s.lanes)
     (λ k h. get_or-map-range_with_len (λ lane. get_or (lanes lane) (s.segment_length - 1) []) 0 s.lanes k k [] h (omega arith) ∙ each k h)
 
--- as in a memory that holds the last pass
+-- in a memory that holds the last pass, the last blocks of the lanes are the setting's last blocks
 pub last_blocks-memory : (s : Setting) → IsSetting s → (m : MemoryValue) → HasShape s m → HoldsLastPass s (block_of m) →
     last_blocks_in m.lanes m.segment_length (places_in m.slices 3) ≡ last_blocks s
 last_blocks-memory s good m shape holds =
@@ -194,7 +194,7 @@ last_blocks-memory s good m shape holds =
     (omega (arith, shape.segment_length, good.long_segments)))
     ∙ holds lane (lane_length s - 1) fits (omega (arith, good.long_segments))))
 
--- and in a slice 3 that holds it
+-- in a slice 3 that holds the last pass, the last blocks of the lanes are the setting's last blocks
 pub last_blocks-held : (s : Setting) → IsSetting s → (lanes : Lanes) → HoldsSlice s (s.passes - 1) 3 lanes →
     last_blocks_in s.lanes s.segment_length lanes ≡ last_blocks s
 last_blocks-held s good lanes holds = last_blocks-are s lanes (λ lane fits.
@@ -203,7 +203,7 @@ last_blocks-held s good lanes holds = last_blocks-are s lanes (λ lane fits.
     (omega (arith, good.long_segments)) (omega arith)
     ∙ ap (λ column. block_at s (record { pass = s.passes - 1; lane = lane; column = column })) (omega (arith, good.long_segments)))
 
--- ---- every order of the lanes
+-- ---- the fill has the same result in every order of the lanes
 
 -- after all passes each slice holds the blocks of the last pass
 pub last_slices : (s : Setting) → IsSetting s → (places : Places) → AreFilledBelow s s.passes 0 places →
@@ -229,15 +229,15 @@ module _ (s : Setting) (places : ℕ → Places) (run : IsRunOfLanes s places) w
       let none : 4 * s.passes % 4 ≡ 0 = omega arith in
       last_slices s run.setting (places (4 * s.passes)) (rw (pass, none) at (run_below (4 * s.passes) (omega arith))) slice below
 
--- ---- each lane's turn, wherever it comes in the order, does what it would have done first
+-- ---- each lane's turn, wherever it comes in the order, has the effect that it would have as the first turn
 
 -- ---- turns of any kind
 
--- a lane's count in an order: 1 if it is first, plus its count in the rest
+-- the count of `lane` in `l ∷ order` is its count in `order`, plus 1 if l is `lane`
 count_first : (l lane n : ℕ) (order : List ℕ) → count_by (λ k. k == lane) (l ∷ order) ≡ n → cond (l == lane) 1 0 + count_by (λ k. k == lane) order ≡ n
 count_first l lane n order e = sym (sum_by-cons (λ k. cond (k == lane) 1 0) l order) ∙ e
 
--- a turn does something to its lane's part alone, from what no turn changes
+-- a turn changes only its own lane's part and, apart from that part, reads only what no turn changes
 pub record IsApart {M X : Type 0} (Turn : ℕ → M → M → Type 0) (Same : M → M → Type 0) (part : ℕ → M → X) (Does : ℕ → M → X → X → Type 0) : Type 0 where
   pub none : (m : M) → Same m m
   pub further : (one two three : M) → Same one two → Same two three → Same one three
@@ -253,7 +253,7 @@ module _ {M X : Type 0} (Turn : ℕ → M → M → Type 0) (Same : M → M → 
   unchanged (lane ∷ order) before after (middle, turn, rest) =
       apart.further before middle after (apart.same lane before middle turn) (unchanged order middle after rest)
 
-  -- a lane that has no turn stays as it is
+  -- if a lane has no turn in the order, the turns leave the lane's part unchanged
   idle : (lane : ℕ) (order : List ℕ) (before after : M) → count_by (λ l. l == lane) order ≡ 0 → AreTurns Turn order before after →
       part lane after ≡ part lane before
   idle lane [] before after none t = ap (part lane) t
@@ -262,7 +262,7 @@ module _ {M X : Type 0} (Turn : ℕ → M → M → Type 0) (Same : M → M → 
     | inr w ↦ idle lane order middle after (let e = rw w.0 at (count_first l lane 0 order none) in omega (arith, e)) rest ∙ apart.kept l lane before middle (λ e. w.1 (sym e)) turn
   ]
 
-  -- and one that has one turn is as its turn leaves it
+  -- if a lane has one turn in the order, the turns together change the lane's part as `Does` says of that turn
   done : (lane : ℕ) (order : List ℕ) (before after : M) → count_by (λ l. l == lane) order ≡ 1 → AreTurns Turn order before after →
       Does lane before (part lane before) (part lane after)
   done lane [] before after once t = absurd (omega (arith, once))
@@ -299,7 +299,7 @@ module _ (s : Setting) (n : ℕ) where
   abbrev lane_of : ℕ → Places → List (List ℕ)
   lane_of lane places = places (n % 4) lane
 
-  -- the other slices hold before a turn what they held before all turns
+  -- if the slices other than slice number n are unchanged, `HoldOthers` still holds of them
   still_held : (before middle : Places) → SameBeside before middle → HoldOthers (numbered s n) before → HoldOthers (numbered s n) middle
   still_held before middle same held = record {
     lower = λ slice lane below fits. same slice lane (λ e. absurd (omega (arith, e, below))) ∙ held.lower slice lane below fits;

@@ -1,4 +1,4 @@
--- Every order of single writes.
+-- Every order of the single writes leads to the blocks of the recurrence.
 use Rattle.std.proofs.Common.{◌≡◌, ℕ, zero, suc, ◌+◌, ◌-◌, ◌*◌, ◌/◌, ◌<◌, ◌≤◌, ◌⊎◌, Bool, true, false, List, [], ◌∷◌, ◌++◌, refl, arith, cond, inl}
 use Rattle.std.proofs.Common.{inr, sym, ◌∙◌, ap, ◌%◌}
 use Rattle.std.specs.Prelude.{◌==◌, ◌&&◌, nat_lt}
@@ -27,7 +27,7 @@ pick-lane_fits s word at good here = drawn_lane_fits s word at good here
 
 -- ---- one write
 
--- if the matrix agrees with f at the places read, the block made from it is the recurrence's
+-- if the matrix agrees with f at the places read, the block made from the matrix is `next_block` of f
 pub from_reads : (s : Setting) (at : Position) (m : Matrix) (f : Blocks) →
     m (previous s at).lane (previous s at).column ≡ f (previous s at) →
     ((word : ℕ) → m (pick s word at).lane (pick s word at).column ≡ f (pick s word at)) →
@@ -41,34 +41,34 @@ from_reads s at m f before picked old =
 
 -- ---- the matrix in the middle of a slice
 
--- below a lane's next column are this pass's blocks, from there on those of the pass before
+-- in each lane, the columns below `next_column` hold this pass's blocks, the others the previous pass's (after pass 0)
 pub record Stands (s : Setting) (pass slice : ℕ) (m : Matrix) (done : ℕ → ℕ) : Type 0 where
   pub now : (r lane column : ℕ) → r ≡ pass → lane < s.lanes → column < lane_length s →
       column < next_column s pass slice (done lane) → m lane column ≡ block_at s (record { pass = r; lane = lane; column = column })
   pub last : (r lane column : ℕ) → suc r ≡ pass → lane < s.lanes → column < lane_length s →
       next_column s pass slice (done lane) ≤ column → m lane column ≡ block_at s (record { pass = r; lane = lane; column = column })
 
--- the blocks that a slice skips at its front, and those that it writes, are a segment
+-- the number of blocks skipped at the front of a slice plus the number written is the segment length
 pub front_whole : (b : Bool) (len : ℕ) → 2 ≤ len → cond b 2 0 + cond b (len - 2) len ≡ len
 front_whole true len h = omega arith
 front_whole false len h = omega arith
 
--- the next place that a lane writes is of a later pass or behind the first two columns
+-- the next place that a lane writes is in a pass after 0 or in a column after the first two
 later_front : (len pass slice d : ℕ) → 2 ≤ len → 0 < pass ⊎ 1 < slice * len + cond ((pass == 0) && (slice == 0)) 2 0 + d
 later_front len pass slice d h = elim (later_index pass slice len (cond ((pass == 0) && (slice == 0)) 2 0 + d)
     (omega arith) h) [ inl w ↦ inl w | inr w ↦ inr (omega (arith, w)) ]
 
--- a place of a later pass or behind the first two columns fails the test for first blocks
+-- a place in a pass after 0 or in a column after the first two fails the test for first blocks
 not_first' : (pass column : ℕ) → (0 < pass ⊎ 1 < column) → ((pass == 0) && nat_lt column 2) ≡ false
 not_first' zero column (inl h) = absurd (omega arith)
 not_first' zero column (inr h) = le-ltb column 2 h
 not_first' (suc pass) column h = elim (eqb_tells (suc pass) 0) [ inl w ↦ absurd (omega (arith, w.1)) | inr w ↦ rw w.0 refl ]
 
--- at a later pass or behind the first two columns the recurrence makes a next block
+-- in a pass after 0 or in a column after the first two, the recurrence is `next_block`
 pub recurrence_later : (s : Setting) (f : Blocks) (at : Position) → (0 < at.pass ⊎ 1 < at.column) → recurrence s f at ≡ next_block s f at
 recurrence_later s f at later = rw (not_first' at.pass at.column later) refl
 
--- an index of a segment, added to the start of a slice, lies in that slice
+-- the column at index j of a slice's segment, `slice * len + j`, is in that slice
 pub slice_of_sum : (len slice j : ℕ) → 0 < len → j < len → (slice * len + j) / len ≡ slice
 slice_of_sum len slice j h k =
     let e : slice * len + j ≡ j + slice * len = omega arith in
@@ -155,19 +155,20 @@ module _ (s : Setting) (good : IsSetting s) (pass slice : ℕ) (few : slice < 4)
 
 -- ---- a whole slice
 
--- an entry moves one block of its lane from the blocks left to the blocks done
+-- after an entry of lane x, the blocks done and the blocks left of each lane still add up to `blocks`
 count_moves : (x lane d n blocks : ℕ) → d + (cond (x == lane) 1 0 + n) ≡ blocks → cond (lane == x) (d + 1) d + n ≡ blocks
 count_moves x lane d n blocks h = elim (eqb_tells lane x) [
   | inl w ↦ rw w.0 (let k = rw (eq-eqb x lane (sym w.1)) at h in omega (arith, k))
   | inr w ↦ rw w.0 (let k = rw (ne_eqb x lane (λ e. w.1 (sym e))) at h in omega (arith, k))
 ]
 
--- a lane with an entry still to come has blocks left to write
+-- if at least one entry of lane x is left, the number d of blocks done is below `blocks`
 pub count_room : (x d n blocks : ℕ) → d + (cond (x == x) 1 0 + n) ≡ blocks → d < blocks
 count_room x d n blocks h = let k = rw (eq-eqb x x refl) at h in omega (arith, k)
 
 module _ (s : Setting) (good : IsSetting s) (pass slice : ℕ) (few : slice < 4) where
-  -- what some entries make of a matrix, where the rest is still to come
+  -- the writes of `entries` preserve `Stands`, and then each lane's `done` plus the number of its entries in `rest` is
+  -- the number of blocks that the lane writes in the slice
   pub run-stands : (entries rest : List ℕ) (p : Progress) → Stands s pass slice p.matrix p.done →
       AllByRecursion (λ lane. lane < s.lanes) (entries ++ rest) →
       ((lane : ℕ) → lane < s.lanes → p.done lane + count_by (λ l. l == lane) (entries ++ rest) ≡ blocks_in_slice s pass slice) →
@@ -184,16 +185,16 @@ module _ (s : Setting) (good : IsSetting s) (pass slice : ℕ) (few : slice < 4)
       fit.1
       (λ lane h. count_moves x lane (p.done lane) _ _ (counted lane h))
 
--- in the first two columns of pass 0 the recurrence gives the first blocks
+-- in the first two columns of pass 0, the recurrence is `first_block`
 pub recurrence_first : (s : Setting) (f : Blocks) (lane column : ℕ) → column < 2 →
     recurrence s f (record { pass = 0; lane = lane; column = column }) ≡ first_block s (record { pass = 0; lane = lane; column = column })
 recurrence_first s f lane column h = rw (lt-ltb column 2 h) refl
 
--- ---- every order of the writes gives the same matrix: from slice to slice, to the end of the last pass
+-- ---- every order of the writes leads to the same blocks: from slice to slice, to the end of the last pass
 
 -- ---- from slice to slice
 
--- where one of two numbers is above 0, the test that both are 0 is false
+-- if a or b is above 0, the test that both are 0 is false
 pub neither : (a b : ℕ) → (0 < a ⊎ 0 < b) → ((a == 0) && (b == 0)) ≡ false
 neither a b h = elim (eqb_tells a 0) [
   | inl w ↦ rw (w.0, ne_eqb b 0 (λ e. absurd (elim h [ inl l ↦ omega (arith, l, w.1) | inr l ↦ omega (arith, l, e) ]))) refl
@@ -204,12 +205,12 @@ neither a b h = elim (eqb_tells a 0) [
 pub no_skip : (pass slice : ℕ) → (0 < pass ⊎ 0 < slice) → ◌≡◌ {A = ℕ} (cond ((pass == 0) && (slice == 0)) 2 0) 0
 no_skip pass slice h = rw (neither pass slice h) refl
 
--- the next slice, of the same pass or the next
+-- slice' of pass' is the next slice after `slice` of `pass`, in the same pass or at the start of the next
 abbrev pub IsNext : ℕ → ℕ → ℕ → ℕ → Type 0
 IsNext pass slice pass' slice' =
     ((slice + 1 ≡ slice') × (pass ≡ pass')) ⊎ ((slice ≡ 3) × (slice' ≡ 0) × (pass + 1 ≡ pass'))
 
--- slice number n + 1, counted over all passes, is the one after number n
+-- counted over all passes, slice number n + 1 is the next slice after slice number n
 pub is_next : (n : ℕ) → IsNext (n / 4) (n % 4) (suc n / 4) (suc n % 4)
 is_next n = elim (eqb_tells (n % 4) 3) [
   | inl w ↦ inr (w.1, omega (arith, w.1), omega (arith, w.1))

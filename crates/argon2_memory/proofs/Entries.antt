@@ -1,4 +1,4 @@
--- What an entry of a schedule reads.
+-- The blocks that an entry of a schedule reads.
 use Rattle.std.proofs.Common.{◌≡◌, ℕ, ◌+◌, ◌*◌, ◌<◌, ◌≤◌, ◌⊎◌, refl, inl, inr, ◌≢◌, ◌/◌, ◌%◌, List, [], ◌∷◌, ◌++◌, arith, cond, sym, ◌∙◌, ap}
 use Rattle.argon2_standard.specs.Standard.Setting.{Setting, Position, slice_of}
 use Rattle.argon2_memory.specs.Views.Jobs.{IsSetting, IsPosition}
@@ -14,16 +14,16 @@ use Rattle.argon2_memory.specs.Theorems.Schedule.{Matrix, Progress, IsSchedule, 
 use Rattle.argon2_memory.specs.Theorems.AnyOrder.{IsRun, IsEntry, progress_before, entry_position, NoEntryReadsOthers, PicksHoldTheirBlocks}
 use Rattle.argon2_memory.proofs.AnyOrder.{Stands, run-stands, count_room, read_pick, here, later, same_slice, after-stands}
 
--- ---- the references of an independent segment use neither prehash nor version, and no write of
--- the slice changes what a write reads of other lanes
+-- ---- the references of an independent segment depend on neither prehash nor version, and no write
+-- in a slice changes a block that a write of another lane reads
 
--- a setting's references are those of its variant, lanes, segment length and passes alone
+-- a setting's reference positions depend only on its variant, lanes, segment length and passes
 pub reference_positions_of-setting : (s : Setting) (pass slice lane : ℕ) →
     reference_positions_of s.variant s.lanes s.segment_length s.passes pass slice lane ≡ positions_in s pass slice lane
 unfolding pick reference_set address_word
 reference_positions_of-setting s pass slice lane = refl
 
--- a place of another lane that is read lies outside the slice that is written
+-- a place that a word picks in another lane is outside the slice of the block that is written
 pub no_shared_read : (s : Setting) (word : ℕ) (at : Position) → IsSetting s → IsPosition s at → (0 < at.pass ⊎ 1 < at.column) →
     ((pick s word at).lane ≡ at.lane → ⊥) →
     ((pick s word at).column < slice_of s at.column * s.segment_length) ⊎ ((slice_of s at.column + 1) * s.segment_length ≤ (pick s word at).column)
@@ -32,9 +32,9 @@ no_shared_read s word at good here later other = elim (pick-readable s word at g
   | inr v ↦ elim v [ inl w ↦ inl w.1 | inr w ↦ absurd (other w.1) ]
 ]
 
--- ---- one entry of a run: what it reads
+-- ---- the blocks that one entry of a run reads
 
--- what holds of all elements of a list holds of one in its middle
+-- if P is true of all elements of `xs ++ x ∷ ys`, then P is true of x
 all-behind : (P : ℕ → Type 0) (xs : List ℕ) (x : ℕ) (ys : List ℕ) → AllByRecursion P (xs ++ x ∷ ys) → P x
 all-behind P [] x ys h = h.0
 all-behind P (z ∷ zs) x ys h = all-behind P zs x ys h.1

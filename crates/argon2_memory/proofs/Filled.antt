@@ -25,13 +25,13 @@ use Rattle.argon2_memory.specs.declared.segment.own_blocks.Source.TheVariants.{O
 use Rattle.argon2_memory.specs.Standard.Kept.{no_segment, SegmentValue, segment_in}
 use Rattle.argon2_memory.specs.Views.Memories.{AreSlices}
 
--- ---- one more block of a segment: it is made of the blocks that the lane sees
+-- ---- the next block of a segment is made of blocks that the lane sees
 
--- a quotient from a bound on the product
+-- if c is less than q * len, then c / len is less than q
 div_below : (c len q : ℕ) → 0 < len → c < q * len → c / len < q
 div_below c len q h k = (div-lt_iff_lt-mul h).1 k
 
--- a number of at least q times len has a quotient by len of at least q
+-- if c is at least q * len, then c / len is at least q
 div_above : (c len q : ℕ) → 0 < len → q * len ≤ c → q ≤ c / len
 div_above c len q h k = elim (cases_lt (c / len) q) [ inl w ↦ absurd (let b = (div-lt_iff_lt-mul h).0 w in omega (arith, b)) | inr w ↦ w ]
 
@@ -59,7 +59,8 @@ module _ (v : SnapshotValue) (job : IsJob v.job) (lane index : ℕ) (lane_fits :
   same_slice : slice_of s at.column ≡ v.job.slice
   same_slice = slice_of_sum s.segment_length v.job.slice index some index_fits
 
-  -- what stands in another slice
+  -- if column c is in another slice, and that slice holds lane l's blocks of pass r, then the block seen at c is the
+  -- recurrence's block of pass r
   at_other : (r l c : ℕ) (blocks : List (List ℕ)) → (c / s.segment_length == v.job.slice) ≡ false →
       other_blocks v (c / s.segment_length) l ≡ segment_at s r (c / s.segment_length) l →
       block_seen v blocks l c ≡ block_at s (record { pass = r; lane = l; column = c })
@@ -69,12 +70,12 @@ module _ (v : SnapshotValue) (job : IsJob v.job) (lane index : ℕ) (lane_fits :
       (c % s.segment_length) [] (mod-lt c some) (omega arith)
       ∙ ap (λ n. block_at s (record { pass = r; lane = l; column = n })) column)
 
-  -- a column of the slice is its start and an index
+  -- a column c of the job's slice is the slice's first column plus c modulo the segment length
   own_index : (c : ℕ) → c / s.segment_length ≡ v.job.slice → v.job.slice * s.segment_length + c % s.segment_length ≡ c
   own_index c e = let d = div-add-mod c s.segment_length in let p : c / s.segment_length * s.segment_length ≡ v.job.slice * s.segment_length = ap
       (λ q. q * s.segment_length) e in omega (arith, d, p)
 
-  -- a block's predecessor stands in the same segment, unless the block is the segment's first
+  -- if `index` is above 0, the previous block that the lane sees is the segment's own block at `index - 1`
   pub seen_before : (blocks : List (List ℕ)) → 0 < index → get_or blocks (index - 1) [] ≡ block_seen v blocks lane (previous s at).column
   seen_before blocks h =
       let c = at.column - 1 in
@@ -141,7 +142,7 @@ module _ (v : SnapshotValue) (job : IsJob v.job) (lane index : ℕ) (lane_fits :
       seen_pick word = seen_readable (pick s word at).pass (pick s word at).lane (pick s word at).column (pick-lane_fits s word at good here)
           (pick-readable s word at good here later_place)
 
-      -- the block that is made of what the lane sees is the recurrence's
+      -- the block made from the previous, the reference and the old block that the lane sees is the recurrence's block
       pub made_next : (chosen : ℕ × ℕ) → chosen ≡ reference_of v.job lane index →
           made_block (block_seen v blocks lane (previous s at).column) (block_seen v blocks chosen.0 chosen.1) (get_or blocks index [])
           (combines s.version && nat_lt 0 v.job.pass)
@@ -156,7 +157,7 @@ module _ (v : SnapshotValue) (job : IsJob v.job) (lane index : ℕ) (lane_fits :
           (λ h. refl)
           ∙ sym (recurrence_later s (block_at s) at later_place) ∙ sym (block_at-recurrence s good at here))
 
-      -- one more block is filled
+      -- writing the recurrence's block at `index` extends the filled part of the segment to `index + 1`
       pub filled_more : (block : List ℕ) → block ≡ block_at s at → IsFilledTo v.job lane (index + 1) (set blocks index block)
       filled_more block e = record {
         count = length-set blocks index block ∙ filled.count;
@@ -172,14 +173,14 @@ module _ (v : SnapshotValue) (job : IsJob v.job) (lane index : ℕ) (lane_fits :
           IsFilledTo v.job lane (index + 1) (set blocks index (made_block p r (get_or blocks index []) x))
       write_filled p r x chosen e ps rs xs = filled_more _ (rw (ps, rs, xs) (made_next chosen e))
 
-      -- a word that is drawn from the block before
+      -- in a data-dependent slice, word 0 of the previous block that the lane sees is the word the recurrence draws
       pub drawn_from_previous : (word : ℕ) → is_data_independent s.variant v.job.pass v.job.slice ≡ false →
           word ≡ slice_index (block_seen v blocks lane (previous s at).column) 0 → word ≡ drawn_word s (block_at s) at
       drawn_from_previous word e h = h ∙ ap (λ b. slice_index b 0) seen_previous
           ∙ ap (λ (b : Bool). cond b (address_word s at) (slice_index (block_at s (previous s at)) 0)) (sym (ap (λ
           (n : ℕ). is_data_independent s.variant v.job.pass n) same_slice ∙ e))
 
-  -- where a reference may lie
+  -- the lane and column that a word picks, with the pass of the pick, are a place that the block may read
   reference_readable : (chosen : ℕ × ℕ) (word : ℕ) → chosen ≡ pick_of v.job lane index word → IsReadable s at chosen.0 ((pick s word at).pass, chosen.1)
   reference_readable chosen word e = rw e (pick-readable s word at good here later_place)
 
@@ -203,9 +204,9 @@ module _ (v : SnapshotValue) (job : IsJob v.job) (lane index : ℕ) (lane_fits :
       → chosen.1 % s.segment_length < index
   reference_before chosen (word, e) = before_of_readable chosen.0 _ chosen.1 (reference_readable chosen word e)
 
--- ---- begin and end
+-- ---- a segment before its first write and after its last
 
--- the same as `filled_none`, for a pass and slice equal to the job's
+-- `filled_none` for variables `pass` and `slice` equal to the job's, so that the proof can match on them
 begin_by : (j : Job) → (pass slice : ℕ) → pass ≡ j.pass → slice ≡ j.slice → IsSetting j.setting → (lane : ℕ) (blocks : List (List ℕ)) →
     IsReady j.setting pass slice lane blocks → IsFilledTo j lane (cond ((pass == 0) && (slice == 0)) 2 0) blocks
 begin_by j zero zero p q good lane blocks ready = record {
@@ -239,22 +240,23 @@ pub filled_all : (j : Job) (lane : ℕ) (blocks : List (List ℕ)) → IsFilledT
 filled_all j lane blocks filled = fill_by_all (segment_block j.setting j.pass j.slice lane) blocks j.setting.segment_length [] filled.count
     (λ k h. filled.new k h)
 
--- ---- a block written in place, behind the blocks that it may be made of
+-- ---- a block written in place: its sources in the segment are before its index
 
--- a source before an index names the same block in the part before that index
+-- a source before `index` names the same block in `take index blocks` as in `blocks`
 same_source : (blocks : List (List ℕ)) (index : ℕ) (source : Source) → IsBefore index source →
     source_block (take index blocks) source ≡ source_block blocks source
 same_source blocks index (Own k) h = get_or-take index blocks k [] h
 same_source blocks index (Other block) h = refl
 
--- a write at the front of the part from an index on is a write at that index of the whole
+-- setting element 0 of `drop index blocks`, behind `take index blocks`, sets element `index` of `blocks`
 set_behind : (blocks : List (List ℕ)) (index : ℕ) (new : List ℕ) → index < length blocks →
     take index blocks ++ set (drop index blocks) 0 new ≡ set blocks index new
 set_behind [] index new h = absurd (omega arith)
 set_behind (x ∷ xs) zero new h = refl
 set_behind (x ∷ xs) (suc i) new h = ap (λ l. x ∷ l) (set_behind xs i new (omega arith))
 
--- `given` is the caller's blocks, as a slice; `p` and `r` are the two sources' blocks, and `d` is any
+-- with the blocks split at `index`, writing `new` at the front of `back` writes the block made from the two sources at
+-- `index`. `given` is the caller's blocks, as a slice; `p` and `r` are the two sources' blocks; `d` is any default
 pub write_in_place : (blocks given front back : List (List ℕ)) (index : ℕ) (prev reference : Source) (with_xor : Bool) (p r d new : List ℕ) →
     given ≡ blocks → index < length blocks → front ≡ take index given → back ≡ drop index given →
     IsBefore index prev → IsBefore index reference → p ≡ source_block front prev → r ≡ source_block front reference →
@@ -268,15 +270,15 @@ write_in_place blocks given front back index prev reference with_xor p r d new s
     let rs' : r ≡ source_block blocks reference = rs ∙ ap (λ l. source_block l reference) f' ∙ same_source blocks index reference before' in
     rw (n, ps', rs', o', f', b') (set_behind blocks index _ fits)
 
--- ---- blocks that are made, with zeros behind them
+-- ---- created blocks, and behind them blocks of zeros that are not created yet
 
--- appending zeros changes no block that a source before a made index names
+-- a source before an index of `xs` names the same block in `xs` as in `xs ++ zs`
 pub source_in_front : (xs zs : List (List ℕ)) (index : ℕ) (source : Source) → index < length xs → IsBefore index source →
     source_block xs source ≡ source_block (xs ++ zs) source
 source_in_front xs zs index (Own k) h before = sym (get_or_append_left xs zs [] k (let e : k < index = before in omega (arith, e, h)))
 source_in_front xs zs index (Other block) h before = refl
 
--- a write among the made blocks, from two sources, is the same write among all blocks
+-- setting a block made from two sources at `index` of `xs`, then appending `zs`, equals setting it at `index` of `all`
 pub made_in_front : (xs zs all : List (List ℕ)) (index : ℕ) (prev reference : Source) (with_xor : Bool) → xs ++ zs ≡ all → index < length xs →
     IsBefore index prev → IsBefore index reference →
     set xs index (made_block (source_block xs prev) (source_block xs reference) (get_or xs index []) with_xor) ++ zs
@@ -288,7 +290,7 @@ made_in_front xs zs all index prev reference with_xor e h before before' =
     rw (p, r, o) (sym (set-append_left xs zs index _ h) ∙ ap (λ l. set l index (made_block (source_block all prev) (source_block all reference)
     (get_or all index []) with_xor)) e)
 
--- ---- slices that are wiped keep their lanes and lengths
+-- ---- wiped slices keep their number of lanes and the lengths of their segments
 
 module _ (p len : ℕ) (slices : List (List SegmentValue)) (good : AreSlices p len slices) where
   abbrev pub wiped : List (List SegmentValue)

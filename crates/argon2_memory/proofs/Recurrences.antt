@@ -25,7 +25,7 @@ use Rattle.argon2_standard.specs.Standard.Recurrence.{Blocks, drawn_word, next_b
 
 -- ---- the setting of a context, and the bounds of a job
 
--- the setting of an accepted call, whose passes and blocks fit 32 bits
+-- the setting of an accepted call meets `IsSetting` if its passes and its blocks are each fewer than 2 ^ 32
 setting_that_fits : (pwd salt : List ℕ) (config : Config) → IsNone (table_error config (length pwd) (length salt) config.hash_length) →
     config.time_cost < 2 ^ 32 → 4 * config.lanes * (config.mem_cost / (4 * config.lanes)) < 2 ^ 32 → IsSetting (setting_of pwd salt config config.hash_length)
 unfolding setting_of prehash_of
@@ -41,7 +41,7 @@ setting_that_fits pwd salt config none few fits =
       fits = fits;
     }
 
--- the setting of a context; the code's types ensure that its numbers fit
+-- the setting of a context meets `IsSetting`; the code's types ensure that both numbers are below 2 ^ 32
 pub context_setting : (x : Context) → x.config.time_cost < 2 ^ 32 → x.memory_blocks < 2 ^ 32 → IsSetting (setting_of_context x)
 context_setting x few fits =
     setting_that_fits x.pwd.now x.salt.now x.config x.accepted few (rw (← x.segment) (omega (arith, x.memory, fits)))
@@ -54,13 +54,13 @@ lane_fits s good = let m = mul-le-mul_right s.segment_length good.some_lane in o
 pub start_fits : (s : Setting) (slice : ℕ) → IsSetting s → slice < 4 → slice * s.segment_length + s.segment_length ≤ lane_length s
 start_fits s slice good h = let b : slice + 1 ≤ 4 = omega arith in let m = mul-le-mul_right s.segment_length b in omega (arith, m)
 
--- what is not of a lane's first two blocks comes after them
+-- a block that a pass writes in a slice is in a pass after 0 or in a column after the first two
 pub later_index : (pass slice len index : ℕ) → cond ((pass == 0) && (slice == 0)) 2 0 ≤ index → 2 ≤ len → 0 < pass ⊎ 1 < slice * len + index
 later_index zero zero len index h k = inr (omega arith)
 later_index zero (suc slice) len index h k = inr (omega arith)
 later_index (suc pass) slice len index h k = inl (omega arith)
 
--- ---- each block that a block may refer to comes before it, and there is always one
+-- ---- each element of a reference set is earlier than its block; the set is not empty after the first two blocks
 
 module _ (P : ℕ × ℕ → Type 0) where
   pub all-columns_from : (pass first n : ℕ) → ((k : ℕ) → first ≤ k → k < first + n → P (pass, k))
@@ -71,7 +71,8 @@ module _ (P : ℕ × ℕ → Type 0) where
 
 -- ---- which blocks a pick may read
 
--- of the pass before in a later slice, of this pass in an earlier slice, or of the own lane before the block
+-- the block of `lane` at pass e.0 and column e.1 is of the pass before and a later slice, of this pass and an earlier
+-- slice, or of this pass and an earlier column of the own lane
 abbrev pub IsReadable : Setting → Position → ℕ → ℕ × ℕ → Type 0
 IsReadable s at lane e =
     ((suc e.0 ≡ at.pass) × ((slice_of s at.column + 1) * s.segment_length ≤ e.1) × (e.1 < lane_length s))
@@ -106,19 +107,19 @@ module _ (s : Setting) (at : Position) (lane : ℕ) where
       (All-append (IsReadable s at lane) _ _ (left-readable at.pass refl) before-readable)
       (own-readable (lane == at.lane) (λ h. eqb-true lane at.lane h)))
 
--- an element of the reference set comes before the block: it is of the pass before, or of this one in an earlier column
+-- e, a pass and a column, is before `at`: in the pass before, or in the same pass and an earlier column
 abbrev pub IsBefore : Setting → Position → ℕ × ℕ → Type 0
 IsBefore s at e = ((suc e.0 ≡ at.pass) × (e.1 < lane_length s)) ⊎ ((e.0 ≡ at.pass) × (e.1 < at.column))
 
--- each place that a block may read comes before the block's own
+-- each place that a block may read is before the block's own place
 readable-before : (s : Setting) (at : Position) (lane : ℕ) (e : ℕ × ℕ) → IsReadable s at lane e → IsBefore s at e
 readable-before s at lane e (inl w) = inl (w.0, w.2)
 readable-before s at lane e (inr (inl w)) = inr (w.0, let d = div-add-mod at.column s.segment_length in omega (arith, d, w.1))
 readable-before s at lane e (inr (inr w)) = inr (w.0, w.2)
 
--- ---- how many there are
+-- ---- the sizes of reference sets
 
--- the columns from `first` up to `end` are `end - first` many
+-- `columns_between pass first end` lists `end - first` columns
 pub length-columns : (pass first end : ℕ) → length (columns_between pass first end) ≡ end - first
 length-columns pass first end = length-map-range_with_len (λ column. (pass, column)) first (end - first)
 
@@ -132,7 +133,7 @@ length-left s (suc last) slice few h =
     let m = mul-le-mul_left s.segment_length b in
     omega (arith, e, m)
 
--- a list of at least two elements is not empty without its last
+-- a list of at least two elements is not empty, even if its last element is left out
 cut_leaves_some : (cut : Bool) (xs : List (ℕ × ℕ)) → 2 ≤ length xs → 0 < length (cond cut (without_last xs) xs)
 cut_leaves_some true xs h = let e = length-take (length xs - 1) xs in omega (arith, e)
 cut_leaves_some false xs h = omega arith
@@ -141,14 +142,14 @@ module _ (s : Setting) (at : Position) (good : IsSetting s) (here : IsPosition s
   few_slices : slice_of s at.column < 4
   few_slices = (div-lt_iff_lt-mul (omega (arith, good.long_segments))).1 (omega (arith, here.column_fits))
 
-  -- W without the own segment, and the columns of the own segment
+  -- the columns of W outside the block's own segment, and the columns of the own segment before the block
   abbrev elsewhere : List (ℕ × ℕ)
   elsewhere = columns_of_last_pass s at.pass (slice_of s at.column) ++ columns_between at.pass 0 (slice_of s at.column * s.segment_length)
 
   abbrev own_columns : List (ℕ × ℕ)
   own_columns = columns_between at.pass (slice_of s at.column * s.segment_length) at.column
 
-  -- without the own segment two stand in W, unless this is the first slice
+  -- `elsewhere` contains at least two columns, unless this is the first slice of pass 0
   two_elsewhere : (0 < at.pass ⊎ 0 < slice_of s at.column) → 2 ≤ length elsewhere
   two_elsewhere h =
       let now = length-columns at.pass 0 (slice_of s at.column * s.segment_length) in
@@ -158,11 +159,11 @@ module _ (s : Setting) (at : Position) (good : IsSetting s) (here : IsPosition s
         | inr h ↦ let more = mul-le-mul_left s.segment_length h in omega (arith, now, both, more, good.long_segments)
       ]
 
-  -- with the own segment too
+  -- `elsewhere ++ ys` contains at least two columns, unless this is the first slice of pass 0
   elsewhere-append : (ys : List (ℕ × ℕ)) → (0 < at.pass ⊎ 0 < slice_of s at.column) → 2 ≤ length (elsewhere ++ ys)
   elsewhere-append ys h = let two = two_elsewhere h in let both = length-append elsewhere ys in omega (arith, two, both)
 
-  -- in the very first slice, all columns before are of the own segment
+  -- in the first slice of pass 0, `elsewhere ++ own_columns` contains at least two columns if `at.column` is above 1
   two_in_first_slice : at.pass ≡ 0 → slice_of s at.column ≡ 0 → 1 < at.column → 2 ≤ length (elsewhere ++ own_columns)
   two_in_first_slice no_pass no_slice h =
       let own = length-columns at.pass (slice_of s at.column * s.segment_length) at.column in
@@ -188,19 +189,19 @@ module _ (s : Setting) (at : Position) (good : IsSetting s) (here : IsPosition s
   some_reference lane later own_first =
       cut_leaves_some (lane == at.lane || index_of s at.column == 0) _ (two_references (lane == at.lane) later own_first)
 
--- the relative position drawn in a set that is not empty is below its size
+-- the relative position that a word draws in a set of n elements is below n, if n is above 0
 pub relative_position_fits : (n word : ℕ) → 0 < n → relative_position n word < n
 relative_position_fits n word h = omega arith
 
--- ---- the pick
+-- ---- the place that a word picks
 
--- where two numbers are below a bound, so is the one that is chosen
+-- if m and n are below k, then the one that `cond` chooses is below k
 cond_below : (b : Bool) {m n k : ℕ} → m < k → n < k → cond b m n < k
 cond_below true h h' = h
 cond_below false h h' = h'
 
 module _ (s : Setting) (word : ℕ) (at : Position) where
-  -- in the very first slice, the drawn lane is the own one
+  -- in the first slice of pass 0, the drawn lane is the block's own lane
   pub own_lane_first : at.pass ≡ 0 → slice_of s at.column ≡ 0 → (drawn_lane s word at == at.lane) ≡ true
   own_lane_first no_pass no_slice = rw (no_pass, no_slice) (eq-eqb at.lane at.lane refl)
 
@@ -208,7 +209,7 @@ module _ (s : Setting) (word : ℕ) (at : Position) where
   drawn_lane_fits good here =
       cond_below ((at.pass == 0) && (slice_of s at.column == 0)) here.lane_fits (mod-lt (high_half word) good.some_lane)
 
--- the pick is an element of the reference set, so an earlier place
+-- the place that a word picks for a block other than a lane's first two is one that the block may read
 pub pick-readable : (s : Setting) (word : ℕ) (at : Position) → IsSetting s → IsPosition s at → (0 < at.pass ⊎ 1 < at.column) →
     IsReadable s at (pick s word at).lane ((pick s word at).pass, (pick s word at).column)
 unfolding pick
@@ -216,32 +217,32 @@ pick-readable s word at good here later =
     let some = some_reference s at good here (drawn_lane s word at) later (own_lane_first s word at) in
     reference_set-readable s at (drawn_lane s word at) _ (0, 0) (relative_position_fits _ word some)
 
--- the place that a word picks for a block comes before the block's own
+-- the place that a word picks for a block other than a lane's first two is before the block's own place
 pub pick-before : (s : Setting) (word : ℕ) (at : Position) → IsSetting s → IsPosition s at → (0 < at.pass ⊎ 1 < at.column) →
     IsBefore s at ((pick s word at).pass, (pick s word at).column)
 pick-before s word at good here later = readable-before s at (pick s word at).lane _ (pick-readable s word at good here later)
 
--- ---- the blocks meet the recurrence, and no other function does
+-- ---- `block_at` meets the recurrence, and no other function does
 
--- the same choice between values that agree where they are chosen
+-- `cond b x y` equals `cond b x' y'` if x equals x' whenever b is true, and y equals y' whenever b is false
 pub same_choice : {A : Type 0} (b : Bool) (x x' y y' : A) → (b ≡ true → x ≡ x') → (b ≡ false → y ≡ y') → cond b x y ≡ cond b x' y'
 same_choice true x x' y y' h k = h refl
 same_choice false x x' y y' h k = k refl
 
--- p comes before a place
+-- p is a place of the setting with a lower rank than `at`
 pub record IsEarlier (s : Setting) (p at : Position) : Type 0 where
   pub place : IsPosition s p
   pub less : rank s p < rank s at
 
--- f and g agree on all places before one
+-- f and g agree on all places earlier than `at`
 abbrev pub AgreeBefore : Setting → Position → Blocks → Blocks → Type 0
 AgreeBefore s at f g = (p : Position) → IsEarlier s p at → f p ≡ g p
 
--- in an earlier pass, or an earlier column of the same
+-- if lanes have q columns, each place of an earlier pass p' has a lower rank than each place of pass p
 earlier_pass : (q p p' c c' : ℕ) → suc p' ≤ p → c' < q → p' * q + c' < p * q + c
 earlier_pass q p p' c c' h lt = let m = mul-le-mul_right q h in omega (arith, m)
 
--- a place outside the first two columns of pass 0 is of a later pass or a later column
+-- a place outside the first two columns of pass 0 is in a pass after 0 or in a column after the first two
 not_first : (pass column : ℕ) → ((pass == 0) && nat_lt column 2) ≡ false → 0 < pass ⊎ 1 < column
 not_first zero column h = inr (ltb-false column 2 h)
 not_first (suc pass) column h = inl (omega arith)
@@ -296,7 +297,7 @@ module _ (s : Setting) (at : Position) (good : IsSetting s) (here : IsPosition s
       same_choice ((at.pass == 0) && nat_lt at.column 2) _ _ _ _ (λ h. refl) (λ h. same_next f g same (not_first at.pass at.column h))
 
 module _ (s : Setting) (good : IsSetting s) where
-  -- past a place's rank, unrolling further changes nothing
+  -- if n and m are above a place's rank, unrolling n times and m times yields the same block at that place
   same_unrolled : (n m : ℕ) (at : Position) → IsPosition s at → rank s at < n → rank s at < m → unroll s n at ≡ unroll s m at
   unfolding unroll
   same_unrolled zero m at here low low' = absurd (omega arith)
@@ -305,14 +306,14 @@ module _ (s : Setting) (good : IsSetting s) where
       same_recurrence s at good here (unroll s n) (unroll s m)
       (λ p e. same_unrolled n m p e.place (omega (arith, e.less)) (omega (arith, e.less)))
 
-  -- B meets the recurrence
+  -- `block_at` (B) meets the recurrence at each place
   pub block_at-recurrence : (at : Position) → IsPosition s at → block_at s at ≡ recurrence s (block_at s) at
   unfolding block_at unroll
   block_at-recurrence at here =
       same_recurrence s at good here (unroll s (rank s at)) (block_at s)
       (λ p e. same_unrolled (rank s at) (suc (rank s p)) p e.place e.less (omega arith))
 
-  -- and what meets the recurrence is B
+  -- a function that meets the recurrence equals `block_at` (B) at each place whose rank is below n
   unique_to : (n : ℕ) (f : Blocks) → ((at : Position) → IsPosition s at → f at ≡ recurrence s f at) →
       (at : Position) → IsPosition s at → rank s at < n → f at ≡ block_at s at
   unique_to zero f meets at here low = absurd (omega arith)

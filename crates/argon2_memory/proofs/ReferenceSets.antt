@@ -1,4 +1,4 @@
--- The blocks that a block may refer to.
+-- Reference sets by arithmetic, and the references of data-independent segments.
 use Rattle.std.proofs.Common.{◌≡◌, ℕ, zero, suc, ◌+◌, ◌-◌, ◌*◌, ◌/◌, ◌<◌, ◌≤◌, Bool, true, false, List, [], ◌++◌, length, get_or, refl, arith, cond}
 use Rattle.std.proofs.Common.{inl, inr, ◌∙◌, ap, append_assoc, ◌%◌, take, drop, sym}
 use Rattle.std.specs.Prelude.{◌==◌, ◌||◌, slice_index}
@@ -21,7 +21,7 @@ use Rattle.argon2_memory.proofs.Entries.{reference_positions_of-setting}
 
 -- ---- the size of a reference set, and the column of each of its elements, by arithmetic
 
--- place k of the columns from `first` up to `end` holds the column `first + k` of the pass
+-- element k of `columns_between pass first end` is the pair of `pass` and the column `first + k`
 get-columns : (pass first end k : ℕ) (d : ℕ × ℕ) → first + k < end → get_or (columns_between pass first end) k d ≡ (pass, first + k)
 get-columns pass first end k d h = get_or-map-range_with_len (λ column. (pass, column)) first (end - first) k (first + k) d (omega arith) refl
 
@@ -135,7 +135,7 @@ module _ (j : Job) (good : IsJob j) (lane index chosen : ℕ) (fits : index < j.
   pub get-reference_set : (k : ℕ) → k < length (reference_set s at chosen) → (get_or (reference_set s at chosen) k (0, 0)).1 ≡ reference_set_column j k
   get-reference_set k h = rw reference_set-is (get-cut ((chosen == lane) || (index == 0)) k (rw reference_set-is at h))
 
-  -- ---- the pick
+  -- ---- the lane and column that a word picks
 
   here : lane < s.lanes → IsPosition s at
   here h = record { lane_fits = h; column_fits = let m = start_fits s j.slice good.setting good.slice_fits in omega (arith, m, fits) }
@@ -160,13 +160,13 @@ module _ (j : Job) (good : IsJob j) (lane index word : ℕ) (lane_fits : lane < 
 
 -- ---- the references of an independent segment, index by index
 
--- the address word of an index is word index % 128 of the address block index / 128
+-- the address word of an index is word number `index % 128` of address block number `index / 128`
 pub address_word-is : (j : Job) → IsJob j → (lane index : ℕ) → index < j.setting.segment_length →
     address_word j.setting (position_of j lane index) ≡ slice_index (addresses j.setting j.pass lane j.slice (index / 128)) (index % 128)
 unfolding address_word
 address_word-is j good lane index fits = rw (same_slice j good lane index 0 fits, same_index j good lane index 0 fits) refl
 
--- in a data-independent slice a block refers to what its address word picks
+-- in a data-independent slice, the reference of a block is the lane and column that its address word picks
 pub reference_of-independent : (j : Job) → IsJob j → (lane index : ℕ) → index < j.setting.segment_length →
     is_data_independent j.setting.variant j.pass j.slice ≡ true → reference_of j lane index ≡ independent_reference j lane index
 reference_of-independent j good lane index fits e =
@@ -202,7 +202,7 @@ module _ (j : Job) (lane first n : ℕ) (fits : first + n ≤ j.setting.segment_
       let w = length-wanted in
       ext_get_or (0, 0) out wanted (e ∙ sym w) (λ k lt. h k (omega arith) ∙ sym (get-wanted k (omega arith)))
 
--- what `reference_positions` answers are the references
+-- in a data-independent slice, element k of what `reference_positions` returns is the reference of block `first + k`
 pub references_known : (j : Job) → IsJob j → (lane first n : ℕ) → first + n ≤ j.setting.segment_length → first_index j ≤ first →
     is_data_independent j.setting.variant j.pass j.slice ≡ true → (out : List (ℕ × ℕ)) →
     out ≡ take n (drop (first - first_index j)

@@ -1,4 +1,4 @@
--- A slice while it is filled.
+-- The slices of a memory or of the caller while one of them is filled.
 use Rattle.std.proofs.Common.{◌≡◌, ◌≢◌, ℕ, ◌+◌, ◌-◌, ◌<◌, List, length, get_or, arith, inl, inr, ap, ◌∙◌, zero, suc, ◌*◌, ◌/◌, ◌%◌, ◌^◌, [], ◌∷◌, map}
 use Rattle.std.proofs.Common.{replicate, set, refl, sym, Vec, Global, ◌≤◌, drop}
 use Rattle.std.specs.List.{remove}
@@ -22,18 +22,18 @@ use Rattle.std.proofs.lemmas.List.Sums.{sum_by-set}
 use Rattle.std.specs.Borrow.{Bor}
 use Rattle.argon2_standard.specs.Standard.Setting.{Setting}
 
--- ---- from slice to slice, wherever the blocks stand
+-- ---- from slice to slice, for blocks in a memory or in the caller's slices
 
--- ---- the slices beside the job's
+-- ---- the slices other than the job's
 
--- each slice has an index below three among the others
+-- `rank_among j k` is below 3 for each of the four slices k
 pub rank_fits : (j : Job) → j.slice < 4 → (k : ℕ) → k < 4 → rank_among j k < 3
 rank_fits j few k h = elim (cases_lt k j.slice) [
   | inl w ↦ rw (lt-ltb k j.slice w) (omega (arith, w, few))
   | inr w ↦ rw (le-ltb k j.slice w) (omega (arith, h))
 ]
 
--- and is at that index once the job's slice is removed from the four
+-- once element `j.slice` is removed from a list, each other element k is at index `rank_among j k`
 pub among-remove : {A : Type 0} (j : Job) (xs : List A) (d : A) → j.slice < length xs → (k : ℕ) → k ≢ j.slice →
     get_or (remove xs j.slice) (rank_among j k) d ≡ get_or xs k d
 among-remove j xs d h k ne = elim (cases_lt k j.slice) [
@@ -41,10 +41,10 @@ among-remove j xs d h k ne = elim (cases_lt k j.slice) [
   | inr w ↦ rw (le-ltb k j.slice w) (get_or-remove_above xs j.slice d (k - 1) (omega (arith, w, ne)) h ∙ ap (λ n. get_or xs n d) (omega (arith, w, ne)))
 ]
 
--- ---- a slice further
+-- ---- before and after the job's slice is filled
 
 module _ (j : Job) (places : Places) (ready : AreFilledBelow j.setting j.pass j.slice places) where
-  -- the other slices are as a fill of the job asks for them
+  -- the slices other than the job's hold the blocks that a fill of the job requires
   pub others_hold : (others : Places) → ((k lane : ℕ) → k ≢ j.slice → others k lane ≡ places k lane) → HoldOthers j others
   others_hold others same = record {
     lower = λ k lane h fits. same k lane (λ n. absurd (omega (arith, h, n))) ∙ ready.below k lane h fits;
@@ -52,7 +52,7 @@ module _ (j : Job) (places : Places) (ready : AreFilledBelow j.setting j.pass j.
         ∙ (rw (← p) at (ready.above k lane (omega (arith, low)) high fits));
   }
 
-  -- with the job's slice filled they are filled one slice further
+  -- once the job's slice is filled too, all slices below the next one are filled
   pub filled_further : (next : Places) → ((k lane : ℕ) → k ≢ j.slice → next k lane ≡ places k lane) →
       ((lane : ℕ) → lane < j.setting.lanes → next j.slice lane ≡ segment_at j.setting j.pass j.slice lane) →
       AreFilledBelow j.setting j.pass (j.slice + 1) next
@@ -64,9 +64,9 @@ module _ (j : Job) (places : Places) (ready : AreFilledBelow j.setting j.pass j.
     above = λ k lane low high fits. rw (same k lane (λ n. absurd (omega (arith, low, n)))) (ready.above k lane (omega (arith, low)) high fits);
   }
 
--- ---- the slices of a memory, of which one is filled beside the others
+-- ---- the slices of a memory, one of which is filled while the others are read
 
--- ---- the slices beside one
+-- ---- the memory without the job's slice, and with the filled slice set in
 
 module _ (j : Job) (good : IsJob j) (m : List (List SegmentValue)) (slices : AreSlices j.setting.lanes j.setting.segment_length m)
     (ready : AreFilledBelow j.setting j.pass j.slice (places_in m)) where
@@ -124,12 +124,12 @@ module _ (j : Job) (good : IsJob j) (m : List (List SegmentValue)) (slices : Are
         (λ k lane ne. ap (λ (l : List SegmentValue). (get_or l lane no_segment).blocks) (at-else k ne))
         (λ lane fits. ap (λ (l : List SegmentValue). (get_or l lane no_segment).blocks) at-same ∙ filled lane fits)
 
--- what is written when a slice is filled
+-- if the new slice k counts d writes more than the old one, modulo 2 ^ 64, then the memory also counts d writes more
 pub set-writes : (m : List (List SegmentValue)) (k d : ℕ) (new : List SegmentValue) → k < length m →
     slice_writes new % 2 ^ 64 ≡ (slice_writes (get_or m k []) + d) % 2 ^ 64 → writes_in (set m k new) ≡ (writes_in m + d) % 2 ^ 64
 set-writes m k d new h e = let b = sum_by-set slice_writes m k new [] h in omega (arith, b, e)
 
--- a slice that moved out and back
+-- setting element k does not change the list without element k
 pub remove-set : {A : Type 0} (xs : List A) (k : ℕ) (x : A) → k < length xs → remove (set xs k x) k ≡ remove xs k
 remove-set [] k x h = absurd (omega arith)
 remove-set (y ∷ ys) zero x h = refl
@@ -146,9 +146,9 @@ module _ (old taken : List (Vec Segment Global)) (k : ℕ) (left : segments_of t
       ∙ set-set (segments_of old) k [] w.items
       ∙ ap (λ (l : List SegmentValue). set (segments_of old) k l) e
 
--- ---- a read and a write of one segment
+-- ---- reads of one segment, and the bounds of slices and columns
 
--- an element that is read at a place, mapped, is what stands there in the mapped list
+-- if v is element k of `xs`, then f v is element k of `map f xs`
 pub read_slice : {V : Type 0} (f : V → List SegmentValue) (xs : List V) (k : ℕ) (v : V) → k < length xs → v ≡ get_or xs k v → f v ≡ get_or (map f xs) k []
 read_slice f xs k v h e = ap f e ∙ sym (get_or-map f xs k v [] h)
 
@@ -160,7 +160,7 @@ module _ (p len : ℕ) (m : List (List SegmentValue)) (slices : AreSlices p len 
       omega (arith, l, n))
       ∙ ap (λ (x : List SegmentValue). get_or x lane no_segment) e
 
--- four slices of p segments of zeros are slices of p lanes
+-- four slices, each of p segments of len blocks of zeros, meet `AreSlices p len`
 pub zeros_are : (p len : ℕ) → AreSlices p len (replicate 4 (replicate p (zero_segment len)))
 zeros_are p len = record {
   count = refl;
@@ -170,17 +170,17 @@ zeros_are p len = record {
       ∙ ap (λ (x : SegmentValue). length x.blocks) (get_or-replicate p lane (zero_segment len) no_segment fits) ∙ length-replicate len zero_block;
 }
 
--- where n is a multiple of 4 and p * n is below 2 ^ 32, so is 4 * p * (n / 4)
+-- if n is a multiple of 4 and p * n is below 2 ^ 32, then 4 * p * (n / 4) is below 2 ^ 32
 pub whole_lanes : (p n : ℕ) → n % 4 ≡ 0 → p * n < 2 ^ 32 → 4 * p * (n / 4) < 2 ^ 32
 whole_lanes p n e h = let k : 4 * (n / 4) ≡ n = omega (arith, e) in let m = ap (λ x. p * x) k in omega (arith, m, h)
 
--- a column of a lane of four segments lies in one of the four slices
+-- the slice `column / len` of a column below 4 * len is one of the four slices
 pub slice_fits : (column len : ℕ) → column < 4 * len → column / len < 4
 slice_fits column len h = (div-lt_iff_lt-mul (omega (arith, h))).1 h
 
--- ---- the blocks of a slice of the caller, lane after lane
+-- ---- slices of the caller, which store their blocks lane after lane
 
--- a block of a lane's part of a slice
+-- block `index` of a lane's part of a slice is block `lane * segment_length + index` of the slice
 pub get-blocks_of_lane : (s : Setting) (blocks : List (List ℕ)) (lane index : ℕ) → index < s.segment_length →
     get_or (blocks_of_lane s blocks lane) index [] ≡ get_or blocks (lane * s.segment_length + index) []
 get-blocks_of_lane s blocks lane index h =
@@ -188,7 +188,7 @@ get-blocks_of_lane s blocks lane index h =
 
 module _ (s : Setting) (others : List (Bor (List (List ℕ)))) (at lane index : ℕ) (o : Bor (List (List ℕ))) (four : length others ≡ 4) (at_fits : at < 4)
     (lane_fits : lane < s.lanes) (is : o ≡ get_or others at o) where
-  -- the segment of a lane in the slice that is read
+  -- segment `lane` of slice number `at` of `slices_of_blocks` is `segment_of_lane` of the caller's slice `o`
   pub segment-is : get_or (get_or (slices_of_blocks s others) at []) lane no_segment ≡ segment_of_lane s o.now lane
   segment-is =
       ap (λ (l : List SegmentValue). get_or l lane no_segment)
@@ -210,7 +210,7 @@ module _ (s : Setting) (others : List (Bor (List (List ℕ)))) (at lane index : 
       ∙ sym (get-blocks_of_lane s o.now lane index index_fits)
       ∙ sym (ap (λ (x : SegmentValue). get_or x.blocks index []) segment-is)
 
--- a lane's part of a slice of p * L blocks has L blocks
+-- each lane's part of a slice of `lanes * segment_length` blocks consists of `segment_length` blocks
 pub length-blocks_of_lane : (s : Setting) (blocks : List (List ℕ)) (lane : ℕ) → length blocks ≡ s.lanes * s.segment_length → lane < s.lanes →
     length (blocks_of_lane s blocks lane) ≡ s.segment_length
 length-blocks_of_lane s blocks lane long fits =
@@ -222,7 +222,7 @@ length-blocks_of_lane s blocks lane long fits =
 
 module _ (j : Job) (good : IsJob j) (a b c : List (List ℕ)) (long-a : length a ≡ j.setting.lanes * j.setting.segment_length)
     (long-b : length b ≡ j.setting.lanes * j.setting.segment_length) (long-c : length c ≡ j.setting.lanes * j.setting.segment_length) where
-  -- the three slices as a snapshot has them
+  -- the snapshot whose other slices are the caller's slices a, b and c
   abbrev v : SnapshotValue
   v = record { job = j; others = slice_of_blocks j.setting a ∷ slice_of_blocks j.setting b ∷ slice_of_blocks j.setting c ∷ [] }
 
@@ -267,12 +267,12 @@ module _ (j : Job) (good : IsJob j) (a b c : List (List ℕ)) (long-a : length a
     };
   }
 
--- ---- the slices by their numbers, where another one stands in for the job's own
+-- ---- lists of four slices in which another slice replaces the job's own
 
 pub map-remove : {A B : Type 0} (f : A → B) (xs : List A) (i : ℕ) → map f (remove xs i) ≡ remove (map f xs) i
 map-remove f xs i = rw (map-append, ← take-map, ← drop-map) refl
 
--- four things made of three, read as slices
+-- three others and a stand-in for the job's own, mapped to slices by f, are `IsAround`
 pub around : {A : Type 0} (f : A → List SegmentValue) (j : Job) (others four : List A) → IsBeside (record { job = j; others = map f others }) →
     length four ≡ 4 → remove four j.slice ≡ others → ((d : A) → get_or four j.slice d ≡ get_or others 0 d) → IsAround j (map f four)
 around f j [] four beside count removed stand_in = absurd (let e = beside.slices in omega (arith, e))
@@ -286,13 +286,13 @@ around f j (o ∷ rest) four beside count removed stand_in =
     }
 
 module _ (j : Job) (slices : List (List SegmentValue)) (around : IsAround j slices) where
-  -- a slice that is not the job's own stands among the others
+  -- a slice other than the job's own is at index `rank_among j slice` once the job's own is removed
   pub other-is : (slice : ℕ) → slice < 4 → slice ≢ j.slice → get_or slices slice [] ≡ get_or (remove slices j.slice) (rank_among j slice) []
   other-is slice fits other =
       let own : j.slice < length slices = let h = around.beside.job.slice_fits in let n = around.count in omega (arith, h, n) in
       sym (among-remove j slices [] own slice other)
 
-  -- each of the four is some other slice, and has its shape
+  -- each of the four slices equals a slice k other than the job's
   is-other : (slice : ℕ) → slice < 4 →
       (k : ℕ) × ((k < 4) × (k ≢ j.slice) × (get_or slices slice [] ≡ get_or (remove slices j.slice) (rank_among j k) []))
   is-other slice fits = elim (eqb_tells slice j.slice) [

@@ -47,7 +47,7 @@ fulls (suc n) = (full_share, fulls n)
 module _ {M : Type 1} {𝓥 : Ura M} (𝓛 : Logic 𝓥) where
   open 𝓛 use {H, A}
 
-  -- new lifetimes, as many as are wanted
+  -- if R and the full tokens of any n lifetimes give Q, R alone gives Q, since n new lifetimes can be made
   pub with_lifetimes : (n : ℕ) (R Q : SProp 𝓥) → ((κs : Lfts n) → ent 𝓥 (sep 𝓥 (toks 𝓛 n κs (fulls n)) R) (H.⇛ Q)) → ent 𝓥 R (H.⇛ Q)
   with_lifetimes zero R Q h = via 𝓥 (sep 𝓥 (emp 𝓥) R) (emp∗ 𝓥 R) (h tt)
   with_lifetimes (suc n) R Q h =
@@ -60,7 +60,7 @@ module _ {M : Type 1} {𝓥 : Ura M} (𝓛 : Logic 𝓥) where
       via 𝓥 (sep 𝓥 (sep 𝓥 T (L a)) R) (assoc' 𝓥 T (L a) R)
       (via 𝓥 (sep 𝓥 (sep 𝓥 (L a) T) R) (mono_l 𝓥 R (comm∗ 𝓥 T (L a))) (h (a ∷ [], κs))))))) (𝓛.laws.⇛_trans Q))
 
--- a fact that a clause says at exit
+-- if the fact Q that a clause states at exit implies φ, the exit gives φ
 pub at_exit : {M : Type 1} {𝓥 : Ura M} (𝓛 : Logic 𝓥) (S : Signature) (ks : Kepts S.params) (κs : Lfts S.lifetimes) (a : Args S κs) (Q : Outs κs S.params ks → Type 0) (φ : Type 0)
     → ((o : Outs κs S.params ks) → Q o → φ) → ent 𝓥 (exits 𝓛 S ks κs a (λ o. fact 𝓥 (Q o))) (fact 𝓥 φ)
 at_exit {𝓥 = 𝓥} 𝓛 S ks κs a Q φ h =
@@ -68,14 +68,14 @@ at_exit {𝓥 = 𝓥} 𝓛 S ks κs a Q φ h =
     let F : Fins κs S.params ks a → SProp 𝓥 = λ ws. fact 𝓥 (Q (outs κs S.params ks a ws)) in
     ex_e 𝓥 (λ ws. sep 𝓥 (L ws) (F ws)) (λ ws. fact_use 𝓥 (Q (outs κs S.params ks a ws)) (snd∗ 𝓥 (L ws) (F ws)) (λ q. fact_i 𝓥 φ (sep 𝓥 (L ws) (F ws)) (h (outs κs S.params ks a ws) q)))
 
--- what a call's result is at the machine, and what its `ensures` says
+-- if E states e, and e implies φ where vs represents the result r, then the result r at the machine and E give φ
 pub says_of : {M : Type 1} {𝓥 : Ura M} (𝓛 : Logic 𝓥) (R : RattleType) (r : R.Denot) (vs : List Val) (E : SProp 𝓥) (e φ : Type 0) → ent 𝓥 E (fact 𝓥 e) → (Is R r vs → e → φ) → ent 𝓥 (sep 𝓥 (sem 𝓛 (R.own_val r vs)) E) (fact 𝓥 φ)
 says_of {𝓥 = 𝓥} 𝓛 R r vs E e φ says h =
     let O : SProp 𝓥 = sem 𝓛 (R.own_val r vs) in
     fact_use 𝓥 (Is R r vs) (via 𝓥 O (fst∗ 𝓥 O E) (shows 𝓛 R r vs)) (λ is.
     fact_use 𝓥 e (via 𝓥 E (snd∗ 𝓥 O E) says) (λ x. fact_i 𝓥 φ (sep 𝓥 O E) (h is x)))
 
--- the machine value stands for a result with the fact of a clause
+-- if v represents the result r, and the clause's fact holds of r, v stands for an answer of which the fact holds
 pub stands_for : (𝓛 : Logic 𝓤) (S : Signature) (ks : Kepts S.params) (κs : Lfts S.lifetimes) (a : Args S κs) (Fact : (type_at S.result κs).Denot → Type 0) (v : Val) (r : Res S κs)
     → ent 𝓤 (sep 𝓤 (sem 𝓛 ((type_at S.result κs).own_val r (v ∷ []))) (exits 𝓛 S ks κs a (λ o. fact 𝓤 (Fact r)))) (fact 𝓤 (StandsFor (type_at S.result κs) Fact v))
 stands_for 𝓛 S ks κs a Fact v r = says_of 𝓛 (type_at S.result κs) r (v ∷ []) (exits 𝓛 S ks κs a (λ o. fact 𝓤 (Fact r))) (Fact r) (StandsFor (type_at S.result κs) Fact v)
@@ -162,10 +162,10 @@ module _ (look : Symbol → Entry) (code : Code) (has : HasT look true code) (k 
   every_schedule = host_runs true false false look (λ (_ : Unit {0}). k) (λ _. code) deal (λ _. has) tt
       (λ x 𝓛 𝓜 𝓡 wired among waits ends cuts. met 𝓛 𝓜 𝓡 wired among (waits tt)) (call tt vs stop) φ duty
 
--- a fact that owns nothing, beside others
+-- if φ holds and Q needs no resources, φ and Q together need no resources
 pub also : {Q : SProp 𝓤} (φ : Type 0) → φ → ent 𝓤 (emp 𝓤) Q → ent 𝓤 (emp 𝓤) (sep 𝓤 (fact 𝓤 φ) Q)
 also {Q} φ y h = via 𝓤 (sep 𝓤 (emp 𝓤) (emp 𝓤)) (emp∗ 𝓤 (emp 𝓤)) (mono∗ 𝓤 {P = emp 𝓤} {P' = fact 𝓤 φ} {Q = emp 𝓤} {Q' = Q} (fact_i 𝓤 φ (emp 𝓤) y) h)
 
--- a number below 2^63 is one of 64 bits
+-- a number below 2^63 fits 64 bits
 pub fits : {n : ℕ} → n < 2 ^ 63 → Fits w64 n
 fits h = record { fits = omega (arith, h) }

@@ -1,4 +1,4 @@
--- An answer is the same wherever the secret and the associated data are.
+-- What is proved of an answer does not depend on where the secret and the associated data are in memory.
 use Rattle.std.proofs.Common.{◌≡◌, ℕ, Bool, true, false, List, length, Option, None, Some, Result, Ok, Err, refl, sym, ap, ◌∙◌, Bor}
 use Rattle.argon2_standard.specs.declared.config.Config.{Config}
 use Rattle.argon2_standard.specs.declared.error.Error.{Error}
@@ -16,12 +16,12 @@ use Rattle.argon2.proofs.StoredHashes.{table_error-same}
 use Rattle.argon2.proofs.Verdicts.{length-tag_of}
 use Rattle.argon2_schedule.specs.Answers.{Inputs, IsTextLength, Returns, config_at, text_at}
 
--- what is shown of a value, where there is one
+-- if an outcome is a value, P holds of the value
 value_of : {A : Type 0} (refusal : Option Error) (workers : Bool) (P : A → Type 0) (x : A) → IsOutcome refusal workers P (Ok x) → P x
 value_of None workers P x h = h
 value_of (Some r) workers P x h = absurd (cc)
 
--- what is shown of a value that is made of another
+-- if P x implies Q y, and the outcome `Ok x` is allowed with P, the outcome `Ok y` is allowed with Q
 made_of : {A B : Type 0} (refusal : Option Error) (workers : Bool) (P : A → Type 0) (Q : B → Type 0) (x : A) (y : B) → (P x → Q y) → IsOutcome refusal workers P (Ok x)
     → IsOutcome refusal workers Q (Ok y)
 made_of None workers P Q x y f h = f h
@@ -62,7 +62,7 @@ pub alike_decoded : (d : Spelled) (s a s' a' : Bor (List ℕ)) → s.now ≡ s'.
 alike_decoded d s a s' a' same_secret same_ad =
     record { variant = refl; version = refl; lanes = refl; mem_cost = refl; time_cost = refl; secret = same_secret; ad = same_ad }
 
--- the tag behind a value, and its length
+-- `Shows` holds of a returned value and the tag of the inputs. By `tag_length`, this tag has `hash_length` bytes
 pub tag_behind : {A : Type 0} (Shows : A → List ℕ → Type 0) (pwd salt : List ℕ) (config : Config) (workers : Bool) (value : A)
     → IsHash pwd salt config workers Shows (Ok value) → Shows value (tag_of pwd salt config config.hash_length)
 tag_behind Shows pwd salt config workers value h =
@@ -100,7 +100,7 @@ same_within false P Q f (Ok same) h = f (Ok same) h
 same_within false P Q f (Err (Refused e)) h = f (Err e) h
 same_within false P Q f (Err TooCostly) h = absurd h
 
--- the length of the PHC string of a tag
+-- if the PHC string of each tag of the settings has `size` bytes, a returned PHC string has `size` bytes
 pub text_length : (x : Inputs) (size : ℕ) → IsTextLength x size → {A : Type 0} (items : A → List ℕ) (s a : Bor (List ℕ)) → s.now ≡ x.secret → a.now ≡ x.ad → (value : A)
     → IsHash x.pwd x.salt (config_at x s a) (may_lack_workers (config_at x s a)) (λ v tag. items v ≡ text_at x (config_at x s a) tag) (Ok value) → length (items value) ≡ size
 text_length x size fits items s a is_secret is_ad value h =

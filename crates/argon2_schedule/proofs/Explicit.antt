@@ -1,4 +1,4 @@
--- The machine value of a tag contains the tag's bytes, as the machine has them.
+-- The machine value of a returned tag contains the machine values of the tag's bytes.
 use mathlib.Core.Path.{◌≡◌, refl, ap, ap₂, ◌∙◌}
 use mathlib.Core.Logic.{inl, inr, ∥∥₁_map}
 use mathlib.Core.Bool.{true, false}
@@ -50,7 +50,7 @@ outcome x None workers expected (Ok tag) v none h is = inl (is_tag_value x tag v
 outcome x None workers expected (Err e) v none h is = inr (e, h, is)
 outcome x (Some r) workers expected answer v none h is = absurd (cc)
 
--- a weaker fact of what is returned
+-- if φ implies ψ of what is returned, a state that is well with φ is well with ψ
 well_more : (φ ψ : Val × Memory → Type 0) → ((y : Val × Memory) → φ y → ψ y) → (s : State (Val × Memory)) (p : Pool (Val × Memory))
     → Well (Stops false false) (T true) false φ s p → Well (Stops false false) (T true) false ψ s p
 well_more φ ψ h (running σ n es r) p w = w

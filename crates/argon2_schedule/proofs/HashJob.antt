@@ -29,7 +29,7 @@ use Rattle.argon2_schedule.proofs.jobs.hash_job_by_value.Symbol
 use Rattle.argon2_schedule.proofs.Among.{Call, also, every_schedule, fits, stands_for}
 use Rattle.argon2_schedule.proofs.Plain.{Plain, arguments, choice, each_is, each_pure, machines, number, own_nothing, runtime, runtime_laws, values}
 
--- bytes in an array of 64
+-- 64 bytes in an array
 abbrev prehash_of : (xs : List ℕ) → length xs ≡ 64 → AreBytes xs → Plain
 prehash_of xs long are = record {
   type = Array Builtin.u8 64;

@@ -44,7 +44,7 @@ abbrev pub machines : (ps : List Plain) → Valss (all_types ps)
 machines [] = tt
 machines (p ∷ ps) = (p.machine, machines ps)
 
--- all machine values
+-- the machine values of all arguments
 abbrev pub arguments : List Plain → List Val
 arguments ps = flat (all_types ps) (machines ps)
 

@@ -38,12 +38,12 @@ pub record Inputs : Type 0 where
 abbrev pub variant_at : ℕ → Variant
 variant_at number = if number == 0 then Argon2d else (if number == 1 then Argon2i else Argon2id)
 
--- version 0x13, or 0x10
+-- version 0x13 for `true`, 0x10 for `false`
 abbrev pub version_at : Bool → Version
 version_at true = Version13
 version_at false = Version10
 
--- for 0 as many workers as lanes, for any other number at most that many
+-- the thread mode of a number: 0 means as many workers as lanes, any other number n means at most n workers
 abbrev pub mode_at : ℕ → ThreadMode
 mode_at threads = if threads == 0 then Parallel else AtMost threads
 
@@ -61,16 +61,16 @@ config_at x secret ad = record {
   version = version_at x.newest;
 }
 
--- wherever the secret and the associated data are
+-- the fact holds of any borrows of this secret and this associated data
 abbrev pub Anywhere : List ℕ → List ℕ → (Bor (List ℕ) → Bor (List ℕ) → Type 0) → Type 0
 Anywhere secret ad Fact = (s a : Bor (List ℕ)) → s.now ≡ secret → a.now ≡ ad → Fact s a
 
--- the error of the settings table or, if there is none, either a resource error or what `made` makes of the tag
+-- the answer is the settings table's error or, if there is none, either a resource error or `made` of the tag
 abbrev pub Returns : Inputs → (Config → List ℕ → List ℕ) → Result (List ℕ) Error → Type 0
 Returns x made answer = Anywhere x.secret x.ad (λ s a. let config = config_at x s a in
     IsHash x.pwd x.salt config (may_lack_workers config) (λ value tag. value ≡ made config tag) answer)
 
--- as `hash_raw`: the tag
+-- `Returns` for `hash_raw`, whose value is the tag
 abbrev pub ReturnsTag : Inputs → Result (List ℕ) Error → Type 0
 ReturnsTag x answer = Returns x (λ config tag. tag) answer
 
@@ -78,36 +78,36 @@ ReturnsTag x answer = Returns x (λ config tag. tag) answer
 abbrev pub text_at : Inputs → Config → List ℕ → List ℕ
 text_at x config tag = text_of (spelled_of config x.salt tag)
 
--- as `hash_encoded`: the PHC string of the tag
+-- `Returns` for `hash_encoded`, whose value is the PHC string of the tag
 abbrev pub ReturnsText : Inputs → Result (List ℕ) Error → Type 0
 ReturnsText x answer = Returns x (text_at x) answer
 
--- the PHC string of each tag of these settings has this many bytes
+-- the PHC string of each tag of these settings has `size` bytes
 abbrev pub IsTextLength : Inputs → ℕ → Type 0
 IsTextLength x size = Anywhere x.secret x.ad (λ s a. (tag : List ℕ) → length tag ≡ x.length → length (text_at x (config_at x s a) tag) ≡ size)
 
--- as `verify_raw`: whether a hash is the tag of its own length, or the settings table's error, or a resource error
+-- the answer of `verify_raw` is whether `hash` is the tag of as many bytes, or the table's error, or a resource error
 abbrev pub JudgesHash : Inputs → List ℕ → Result Bool Error → Type 0
 JudgesHash x hash answer = Anywhere x.secret x.ad (λ s a. let config = config_at x s a in
     IsVerdict x.pwd x.salt hash config (may_lack_workers config) answer)
 
--- a PHC string, and what it is verified with
+-- a PHC string, and the password, the secret and the associated data for its verification
 pub record Stored : Type 0 where
   pub encoded : List ℕ
   pub pwd : List ℕ
   pub secret : List ℕ
   pub ad : List ℕ
 
--- whether the hash of a PHC string that decodes to d is the tag
+-- the answer is the verdict on `d.hash`, where d is a decoded PHC string
 abbrev pub JudgesDecoded : Stored → Spelled → Bor (List ℕ) → Bor (List ℕ) → Result Bool Error → Type 0
 JudgesDecoded x d s a answer = IsVerdict x.pwd d.salt d.hash (decoded_config d s a) (nat_lt 1 d.parallelism) answer
 
--- as `verify_encoded_ext`: `DecodingFail`, or the verdict on what was decoded
+-- the answer of `verify_encoded_ext` is `DecodingFail`, or the verdict on the decoded hash
 pub record JudgesText (x : Stored) (answer : Result Bool Error) : Type 0 where
   pub unspelled : SpellsNothing x.encoded → answer ≡ Err DecodingFail
   pub spelled : (d : Spelled) → Spells x.encoded d → Anywhere x.secret x.ad (λ s a. JudgesDecoded x d s a answer)
 
--- as `verify_encoded_within`: `DecodingFail`, too costly, or the verdict
+-- the answer of `verify_encoded_within` is `DecodingFail`, `TooCostly`, or the verdict on the decoded hash
 pub record JudgesTextWithin (x : Stored) (limits : Limits) (answer : Result Bool Unverified) : Type 0 where
   pub unspelled : SpellsNothing x.encoded → answer ≡ Err (Refused DecodingFail)
   pub spelled : (d : Spelled) → Spells x.encoded d

@@ -24,7 +24,7 @@ setting_at x = record {
   passes = x.passes;
 }
 
--- within the bounds of a setting, and each byte and each number is in the range of its type
+-- the numbers are within the bounds of a setting, and each byte and each number is in the range of its type
 pub record AreJobNumbers (x : JobNumbers) : Type 0 where
   pub setting : IsSetting (setting_at x)
   pub prehash : AreBytes x.prehash

@@ -18,9 +18,9 @@ use Rattle.argon2.specs.declared.limits.Limits.{Limits}
 use Rattle.argon2_schedule.specs.Answers.{Inputs, Stored}
 
 -- A host program makes this call once. In every program that has this code, from any memory and under every scheduler,
--- the run of the host is finite and no thread faults. The scheduler may halt the run in any state. In that state the
--- call has returned a machine value for which the fact holds, or no two threads are about to race and some thread can
--- run, waits or sleeps. The process does not exit.
+-- the run of the host is finite and no thread faults. The scheduler may halt the run in any state. In each such
+-- state, either the call has returned a machine value for which the fact holds, or no two threads are about to race
+-- and some thread can run, waits or sleeps. The process does not exit.
 abbrev pub EverySchedule : Code → Callee → List Val → (Val → Type 0) → Type 0
 EverySchedule code callee arguments Fact = (look : Symbol → Entry) → HasT look true code
     → Hosted true false false look (λ (_ : Unit {0}). callee) (call tt arguments stop) Fact

@@ -1,4 +1,4 @@
--- The theorems about every schedule. `code` is the prover's form of a call and of all that it reaches.
+-- The theorems about every schedule. `code` is the prover's form of a call and of all code that the call reaches.
 use Rattle.std.specs.Prelude.{◌≡◌, ◌⊎◌, ℕ, ◌<◌, ◌^◌, Bool, List, [], ◌∷◌, ◌++◌, None, Err, IsUtf8, length}
 use denote.Array.{array_val}
 use denote.Laws.{Is}
@@ -32,7 +32,7 @@ use Rattle.argon2_schedule.specs.contracts.verify_within_by_value.Key as VerifyW
 abbrev pub size_of : List ℕ → RattleType
 size_of bytes = Param.number (length bytes)
 
--- `hash_raw` in any thread mode: the tag, the settings table's error, or a resource error
+-- `hash_raw` in any thread mode returns the tag, the settings table's error, or a resource error
 abbrev pub HashRawReturned : Inputs → RattleType
 HashRawReturned x = type_at (HashRaw.signature (size_of x.pwd) (size_of x.salt) (size_of x.secret) (size_of x.ad) (Param.number x.length) Runtime).result ([], ([], ([], ([], ([], ([], tt))))))
 
@@ -48,7 +48,7 @@ tag_value tag = vstruct (vcons (live 0 (vcons (array_val (byte_vals tag)) vnil))
 abbrev pub IsTagOrResourceError : Inputs → List ℕ → Bool → Val → Type 0
 IsTagOrResourceError x tag workers v = (v ≡ tag_value tag) ⊎ ((e : Error) × IsResourceError workers e × Is (HashRawReturned x) (Err e, record { seal = tt }) (v ∷ []))
 
--- the same where the settings table accepts the settings: the tag's bytes in the machine value, or a resource error
+-- if the settings table accepts the settings, the machine value from `hash_raw` has the tag's bytes or a resource error
 abbrev pub ExplicitTagUnderEverySchedule : Code → Type 0
 ExplicitTagUnderEverySchedule code = (x : Inputs) → AreInputs x → Anywhere x.secret x.ad (λ s a. let config = config_at x s a in
     table_error config (length x.pwd) (length x.salt) x.length ≡ None
@@ -56,7 +56,7 @@ ExplicitTagUnderEverySchedule code = (x : Inputs) → AreInputs x → Anywhere x
     (granted ∷ vstruct (vcons granted vnil) ∷ arrays (x.pwd ∷ x.salt ∷ x.secret ∷ x.ad ∷ []) (setting_vals x))
     (IsTagOrResourceError x (tag_of x.pwd x.salt config x.length) (may_lack_workers config)))
 
--- `hash_encoded`: the PHC string of the tag instead
+-- `hash_encoded` returns the PHC string of the tag, the settings table's error, or a resource error
 abbrev pub HashEncodedReturned : Inputs → ℕ → RattleType
 HashEncodedReturned x size = type_at (HashEncoded.signature (size_of x.pwd) (size_of x.salt) (size_of x.secret) (size_of x.ad) (Param.number size) Runtime).result ([], ([], ([], ([], ([], ([], tt))))))
 
@@ -65,7 +65,7 @@ TextUnderEverySchedule code = (x : Inputs) → AreInputs x → (size : ℕ) → 
     → OfCall code HashEncodedKey.name (x.pwd ∷ x.salt ∷ x.secret ∷ x.ad ∷ []) (size ∷ []) (setting_vals x ++ vint w32 x.length ∷ [])
     (HashEncodedReturned x size) (λ r. ReturnsText x r.0)
 
--- `verify_raw`: whether a hash is the tag of its own length, the settings table's error, or a resource error
+-- `verify_raw` returns whether `hash` is the tag of as many bytes, the settings table's error, or a resource error
 abbrev pub VerifyRawReturned : Inputs → List ℕ → RattleType
 VerifyRawReturned x hash = type_at (VerifyRaw.signature (size_of x.pwd) (size_of x.salt) (size_of hash) (size_of x.secret) (size_of x.ad) Runtime).result ([], ([], ([], ([], ([], ([], tt))))))
 
@@ -74,7 +74,7 @@ VerdictUnderEverySchedule code = (x : Inputs) → AreInputs x → (hash : List �
     → OfCall code VerifyRawKey.name (x.pwd ∷ x.salt ∷ hash ∷ x.secret ∷ x.ad ∷ []) [] (setting_vals x ++ vint w32 x.length ∷ [])
     (VerifyRawReturned x hash) (λ r. JudgesHash x hash r.0)
 
--- `verify_encoded_ext`: the same of a PHC string, or `DecodingFail`
+-- `verify_encoded_ext` returns the verdict on the decoded hash, `DecodingFail`, the table's error, or a resource error
 abbrev pub VerifyEncodedReturned : Stored → RattleType
 VerifyEncodedReturned x = type_at (VerifyEncoded.signature (size_of x.encoded) (size_of x.pwd) (size_of x.secret) (size_of x.ad) Runtime).result ([], ([], ([], ([], ([], tt)))))
 
@@ -83,7 +83,7 @@ TextVerdictUnderEverySchedule code = (x : Stored) → AreStored x → IsUtf8 x.e
     → OfCall code VerifyEncodedKey.name (x.encoded ∷ x.pwd ∷ x.secret ∷ x.ad ∷ []) [] []
     (VerifyEncodedReturned x) (λ r. JudgesText x r.0)
 
--- `verify_encoded_within`: the same within limits, or `TooCostly`
+-- `verify_encoded_within` returns `TooCostly` above the limits, and otherwise what `verify_encoded_ext` returns
 abbrev pub VerifyWithinReturned : Stored → RattleType
 VerifyWithinReturned x = type_at (VerifyWithin.signature (size_of x.encoded) (size_of x.pwd) (size_of x.secret) (size_of x.ad) Runtime).result ([], ([], ([], ([], ([], tt)))))
 

@@ -28,7 +28,7 @@ use std::sync::Wait;
 use std::thread::Threads;
 use std::{result, str};
 
-/// The variant of a number: 0 for Argon2d, 1 for Argon2i, any other for Argon2id.
+/// Returns the variant of a number: 0 for Argon2d, 1 for Argon2i, any other for Argon2id.
 fn variant_of(number: u32) -> Variant
     ensures { result ≡ variant_at number }
 {
@@ -39,7 +39,7 @@ fn variant_of(number: u32) -> Variant
     }
 }
 
-/// Version 0x13, or 0x10.
+/// Returns version 0x13 if `newest` is true, and version 0x10 otherwise.
 fn version_of(newest: bool) -> Version
     ensures { result ≡ version_at newest }
 {
@@ -50,7 +50,7 @@ fn version_of(newest: bool) -> Version
     }
 }
 
-/// For 0, as many workers as lanes. For any other number, at most that many.
+/// Returns the thread mode: 0 means as many workers as lanes, any other n means at most n workers.
 fn mode_of(threads: u32) -> ThreadMode
     ensures { result ≡ mode_at threads }
 {
@@ -61,7 +61,7 @@ fn mode_of(threads: u32) -> ThreadMode
     }
 }
 
-/// The bytes in an array of their length.
+/// Returns the bytes in an array of N bytes.
 fn array_of<const N: usize>(bytes: &[u8]) -> [u8; N]
     requires { length bytes.now ≡ N }
     ensures { result ≡ bytes.now }
@@ -126,8 +126,8 @@ pub fn hash_raw_by_value<
     (answer, rt)
 }
 
-/// The encoded hash that `hash_encoded` returns, in an array of its length, or its error; and the
-/// runtime.
+/// Returns the encoded hash that `hash_encoded` returns, in an array of N bytes, or its error. It
+/// also returns the runtime.
 pub fn hash_encoded_by_value<
     const P: usize,
     const S: usize,
@@ -196,7 +196,7 @@ pub fn hash_encoded_by_value<
     (answer, rt)
 }
 
-/// Whether `verify_raw` finds that a hash is the tag, or its error; and the runtime.
+/// Returns the verdict that `verify_raw` returns, or its error. It also returns the runtime.
 pub fn verify_raw_by_value<
     const P: usize,
     const S: usize,
@@ -250,7 +250,7 @@ pub fn verify_raw_by_value<
     (answer, rt)
 }
 
-/// What `verify_encoded_ext` finds of a string in UTF-8, or its error; and the runtime.
+/// Returns what `verify_encoded_ext` returns for a UTF-8 string. It also returns the runtime.
 pub fn verify_encoded_by_value<
     const E: usize,
     const P: usize,
@@ -278,7 +278,7 @@ pub fn verify_encoded_by_value<
     (answer, rt)
 }
 
-/// What `verify_encoded_within` finds of a string in UTF-8, or its error; and the runtime.
+/// Returns what `verify_encoded_within` returns for a UTF-8 string. It also returns the runtime.
 pub fn verify_within_by_value<
     const E: usize,
     const P: usize,

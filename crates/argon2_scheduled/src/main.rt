@@ -1,5 +1,5 @@
-//! Makes each call by values with workers, on the inputs of RFC 9106, section 5.3, and prints what
-//! it returns. This program contains the code that the theorems about these calls assume.
+//! Makes each `_by_value` call with workers, on the inputs of RFC 9106, section 5.3, and prints
+//! what it returns. This program contains the code that the theorems about these calls assume.
 #![tactic(auto)]
 
 use argon2_schedule::jobs::hash_job_by_value;
@@ -17,7 +17,7 @@ const SECRET: [u8; 8] = [3; 8];
 
 const AD: [u8; 12] = [4; 12];
 
-/// H0 of these inputs, as the RFC has it.
+/// H0 of these inputs, as RFC 9106 states it in section 5.3.
 const PREHASH: [u8; 64] = [
     0x28, 0x89, 0xde, 0x48, 0x7e, 0xb4, 0x2a, 0xe5, 0x00, 0xc0, 0x00, 0x7e, 0xd9, 0x25, 0x2f, 0x10,
     0x69, 0xea, 0xde, 0xc4, 0x0d, 0x57, 0x65, 0xb4, 0x85, 0xde, 0x6d, 0xc2, 0x43, 0x7a, 0x67, 0xb8,

@@ -50,7 +50,7 @@ pub record AreAccepted (config : Config) (salt_len hash_len : ℕ) : Type 0 wher
   pub hash_suffices : 4 ≤ hash_len
   pub hash_fits : hash_len ≤ max_length
 
--- what is not rejected has its lanes, memory, passes and lengths within bounds
+-- if the settings table has no error, lanes, memory, passes, salt length and hash length are within bounds
 pub accepted : (config : Config) (p s h : ℕ) → IsNone (table_error config p s h) → AreAccepted config s h
 unfolding table_error
 accepted config p s h none =
@@ -69,7 +69,7 @@ accepted config p s h none =
 length_fits : (n : ℕ) → ltb max_length n ≡ false → Fits w32 n
 length_fits n e = let few = ltb-false max_length n e in record { fits = omega arith }
 
--- what is not rejected has inputs whose lengths have 32 bits: the password, the salt, the secret and the associated data
+-- if the settings table has no error, the lengths of password, salt, secret and associated data fit 32 bits
 pub inputs_fit : (config : Config) (p s h : ℕ) → IsNone (table_error config p s h)
     → Fits w32 p × (Fits w32 s × (Fits w32 (length config.secret.now) × Fits w32 (length config.ad.now)))
 unfolding table_error
@@ -84,7 +84,7 @@ long_segment mem lanes some h = elim (cases_lt (mem / (4 * lanes)) 2) [
   | inr w ↦ w
 ]
 
--- where four segments for each lane are fewer than 2^32 blocks, so are all lanes together
+-- if 4 * lanes segments have fewer than 2^32 blocks in total, so have the lanes, each of 4 segments
 pub lanes_fit : (lanes mem segment length : ℕ) → length ≡ 4 * segment → segment ≡ mem / (4 * lanes) → 4 * lanes * (mem / (4 * lanes)) < 2 ^ 32
     → lanes * length < 2 ^ 32
 lanes_fit lanes mem segment length l s h = let a = ap (λ x. lanes * x) l in let b = ap (λ x. 4 * lanes * x) s in omega (arith, a, b, h)
@@ -95,7 +95,7 @@ pub joined : (a b c d e f g h i j k l m n : List ℕ) →
     ≡ a ++ b ++ c ++ d ++ e ++ f ++ (g ++ h) ++ (i ++ j) ++ (k ++ l) ++ (m ++ n)
 joined a b c d e f g h i j k l m n = simp (append_assoc, append-nil)
 
--- the numbers in four bytes each, and each input behind its length, are what H0 is the hash of
+-- six numbers in four bytes each, and four inputs, each behind its length, are together `hashed_inputs`
 pub inputs_joined : (pwd salt : List ℕ) (config : Config) (len : ℕ) (a b c d e f g i k m : List ℕ) →
     a ≡ le32 config.lanes → b ≡ le32 len → c ≡ le32 config.mem_cost → d ≡ le32 config.time_cost →
     e ≡ le32 (version_number config.version) → f ≡ le32 (variant_number config.variant) →
@@ -106,7 +106,7 @@ inputs_joined pwd salt config len a b c d e f g i k m pa pb pc pd pe pf pg pi pk
     joined a b c d e f g pwd i salt k config.secret.now m config.ad.now
     ∙ rw (pa, pb, pc, pd, pe, pf, pg, pi, pk, pm) refl
 
--- how many workers an accepted configuration asks for
+-- for 1 to 16777215 lanes, a thread mode asks for at least 1 worker and fewer than 2^24
 workers_fit_in : (mode : ThreadMode) (lanes : ℕ) → 0 < lanes → lanes ≤ 16777215 →
     (0 < cond (fills_alone mode lanes) 1 (worker_count mode lanes)) × (cond (fills_alone mode lanes) 1 (worker_count mode lanes) < 2 ^ 24)
 workers_fit_in Sequential lanes h k = (omega arith, omega arith)
@@ -119,18 +119,18 @@ workers_fit_in (AtMost most) lanes h k = elim (cases_lt 1 most) [
   | inr w ↦ rw (le-leb most 1 w) (omega arith, omega arith)
 ]
 
--- with its lanes within bounds, a configuration asks for 1 worker at least and fewer than 2^24
+-- a configuration with 1 to 16777215 lanes asks for at least 1 worker and fewer than 2^24
 pub workers_fit : (config : Config) → 0 < config.lanes → config.lanes ≤ 16777215 → (0 < workers_of config) × (workers_of config < 2 ^ 24)
 workers_fit config h k = workers_fit_in config.thread_mode config.lanes h k
 
 -- ---- how long the hashes are
 
--- a state of BLAKE2b has eight words
+-- the state that `compress_f` returns has eight words
 length-compress_f : (h m : List ℕ) (t : ℕ) (is_last : Bool) → length (compress_f h m t is_last) ≡ 8
 unfolding compress_f
 length-compress_f h m t is_last = simp length-map
 
--- BLAKE2b gives the bytes that it is asked for, up to 64
+-- BLAKE2b with output length nn, at most 64, returns nn bytes
 pub length-blake2b : (nn : ℕ) (message : List ℕ) → nn ≤ 64 → length (blake2b nn message) ≡ nn
 unfolding blake2b
 length-blake2b nn message h =
@@ -142,7 +142,7 @@ length-blake2b nn message h =
     let s = length-compress_f before words (length message) true in
     omega (arith, t, b, s, h)
 
--- a chain of n V gives 32 bytes of each, and then the last hash
+-- a hash chain with n values V has 32 bytes for each V, and then the `last` bytes of the last hash
 length-hash_chain : (n last : ℕ) (x : List ℕ) → last ≤ 64 → length (hash_chain n last x) ≡ 32 * n + last
 unfolding hash_chain
 length-hash_chain zero last x h = let b = length-blake2b last x h in omega (arith, b)
@@ -152,7 +152,7 @@ length-hash_chain (suc n) last x h =
     let r = length-hash_chain n last (blake2b 64 x) h in
     simp length-append (omega (arith, b, t, r))
 
--- H' gives the bytes that it is asked for
+-- H' with output length len returns len bytes
 pub length-hprime : (len : ℕ) (message : List ℕ) → length (hprime len message) ≡ len
 length-hprime len message =
     let r = chain_length len in

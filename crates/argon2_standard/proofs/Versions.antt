@@ -10,7 +10,7 @@ abbrev pub digits_of_version : Version → List ℕ
 digits_of_version Version10 = codes "16"
 digits_of_version Version13 = codes "19"
 
--- this equals the version's text
+-- `digits_of_version` of a version is the version's text
 pub version_in_digits : (version : Version) → version_text version ≡ digits_of_version version
 unfolding digits
 version_in_digits Version10 = refl

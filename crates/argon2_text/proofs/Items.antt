@@ -34,7 +34,7 @@ use Rattle.argon2_text.specs.Views.Texts.{IsHeadOf, IsSpellingOf, settings_of, f
 use Rattle.std.specs.Result.{result_ok}
 use Rattle.argon2_standard.specs.declared.config.Config.{Config}
 
--- ---- base64 of bytes: no `$`, one string for each, and its length
+-- ---- base64 of bytes has no `$`, determines the bytes, and has the unpadded length
 
 -- a list that lacks c has no c at any place, nor past its end, where 0 is read
 symbol_lacks : (c : ℕ) (t : List ℕ) (i : ℕ) → 0 ≢ c → Lacks c t → get_or t i 0 ≢ c
@@ -50,13 +50,13 @@ encode_lacks c t (a ∷ []) h = (h _, (h _, tt))
 encode_lacks c t (a ∷ b ∷ []) h = (h _, (h _, (h _, tt)))
 encode_lacks c t (a ∷ b ∷ d ∷ rest) h = (h _, (h _, (h _, (h _, encode_lacks c t rest h))))
 
--- no letter of the alphabet is a `$`
+-- the base64 of any bytes has no `$`
 pub base64_lacks : (bytes : List ℕ) → Lacks 36 (base64 bytes)
 base64_lacks bytes =
     let letters : Lacks 36 alphabet = any_lacks 36 alphabet refl in
     rw (base64-symbols bytes) (encode_lacks 36 alphabet bytes (λ i. symbol_lacks 36 alphabet i (λ e. cc) letters))
 
--- a string is the base64 of one list of bytes
+-- a string is the base64 of at most one list of bytes
 pub item_unique : (text a b : List ℕ) → IsItem text a → IsItem text b → a ≡ b
 item_unique text a b x y =
     let first = decode_of-encode_of standard_no_pad a refl x.bytes_fit in
@@ -83,14 +83,14 @@ take_bytes n bytes h = front_bytes (take n bytes) (drop n bytes) (rw (take-appen
 pub no_item : (text : List ℕ) (told : Bool) → IsTrue told ↔ IsSomeItem text → told ≡ false → IsSomeItem text → ⊥
 no_item text told tells fails item = let t = sym fails ∙ tells.1 item in cc
 
--- ---- the crate's decoding of an item
+-- ---- how the crate `base64` decodes an item
 
 -- if `or_else` of two errors is none, both are none
 no_errors : (x y : Option DecodeError) → or_else x y ≡ None → (x ≡ None) × (y ≡ None)
 no_errors None y e = (refl, e)
 no_errors (Some e) y none = absurd cc
 
--- what decodes without an error fills a buffer of just its length
+-- a string without errors decodes into a buffer of exactly its decoded length, if the groups before the last fit
 slice_decoded : (dec s bytes : List ℕ) (pad : ℕ) (allow : Bool) (mode : DecodePaddingMode) (len : ℕ) → decode_error dec pad allow mode s ≡ None
     → decoded_bytes dec pad s ≡ bytes → length bytes ≡ len → groups_before_last (length s) ≤ len / 3
     → decode_slice_result dec pad allow mode s len ≡ Ok len
@@ -102,7 +102,7 @@ slice_decoded dec s bytes pad allow mode len none is fits groups =
     let end : nat_lt len len ≡ false = le-ltb len len (omega arith) in
     rw (both.0, room, both.1, is, fits, end) refl
 
--- what crate `base64` decodes of an item into a buffer of exactly its length is the bytes of the item
+-- if a buffer has exactly an item's decoded length, crate `base64` fills it with the item's bytes
 pub item_filled : (text old new : List ℕ) (r : Result ℕ DecodeSliceError) → IsSomeItem text → length old ≡ 3 * length text / 4
     → r ≡ decode_slice_of standard_no_pad text (length old) → OnOk r (IsWrittenOver (decoded_bytes_of standard_no_pad text) old new)
     → (r ≡ Ok (length old)) × IsItem text new
@@ -122,7 +122,7 @@ item_filled text old new r (bytes, item) fits value written =
     let all : new ≡ bytes = rw (put, is, rest) (append-nil bytes) in
     (ok, subst (λ (x : List ℕ). IsItem text x) (sym all) item)
 
--- ---- the pieces of a decoded head are clean, so a string has one head
+-- ---- the pieces of a decoded head are clean, so a string has at most one split with a head
 
 -- no `$` stands in the lowercase name of a variant
 lowercase_lacks : (variant : Variant) → Lacks 36 (lowercase_name variant)
@@ -147,16 +147,16 @@ unfolding digits
 number_of_lacks Version10 = any_lacks 36 (codes "16") refl
 number_of_lacks Version13 = any_lacks 36 (codes "19") refl
 
--- no `$` stands in the piece of a version, where there is one
+-- no `$` stands in the piece of a version, if there is such a piece
 version_lacks : (piece : Option (List ℕ)) (version : Version) → IsVersion piece version → IfSome piece (Lacks 36)
 version_lacks None version h = tt
 version_lacks (Some number) version h = rw h (number_of_lacks version)
 
--- a cut string is a split one
+-- pieces that are a cut of a string (`IsCut`) are also a split of the string (`IsSplit`)
 pub split_of : (text : List ℕ) (p : Pieces) → IsCut text p → IsSplit text p
 split_of text p cut = record { whole = cut.whole; salt = cut.salt }
 
--- pieces that are split from a string and decode to a head are clean
+-- pieces that are a split of a string and decode to a head are clean (`IsClean`)
 pub head_clean : (text : List ℕ) (p : Pieces) (d : Spelled) → IsSplit text p → IsHead p d → IsClean p
 head_clean text p d cut head = record {
   name = name_lacks p.name d.variant head.name;
@@ -167,7 +167,7 @@ head_clean text p d cut head = record {
   salt = cut.salt;
 }
 
--- the pieces of a decoded head are those that are cut
+-- if a split of a string decodes to a head, `pieces_of` finds the pieces of this split
 pub head_cut : (text : List ℕ) (p : Pieces) (d : Spelled) → IsSplit text p → IsHead p d → pieces_of text ≡ Some p
 head_cut text p d cut head = ap pieces_of cut.whole ∙ pieces-again p (head_clean text p d cut head)
 
@@ -192,7 +192,7 @@ head_at text p some (q, d, cut, head) =
 
 -- ---- decodings
 
--- any decoding of the string has the salt and the hash of its head
+-- the items of a string's head encode the salt and the hash of any value that the string decodes to
 pub items_at : (text : List ℕ) (h : Head) (d : Spelled) → IsHeadOf text h → Spells text d → IsItem h.salt.now d.salt × IsItem h.hash.now d.hash
 items_at text h d head s =
     let same : s.pieces ≡ head.pieces = pieces_unique text s.pieces head.pieces d (settings_of h) (split_of text s.pieces s.cut) s.head head.cut head.head in
@@ -200,15 +200,15 @@ items_at text h d head s =
     let hash : s.pieces.hash ≡ h.hash.now = ap (λ (p : Pieces). p.hash) same ∙ head.hash in
     (subst (λ (t : List ℕ). IsItem t d.salt) salt s.salt, subst (λ (t : List ℕ). IsItem t d.hash) hash s.hash)
 
--- a string decodes to nothing where what stands for its salt is no item
+-- a string with a head whose salt is no item decodes to nothing
 pub saltless : (text : List ℕ) (h : Head) → IsHeadOf text h → (IsSomeItem h.salt.now → ⊥) → SpellsNothing text
 saltless text h head none d s = none (d.salt, (items_at text h d head s).0)
 
--- a string decodes to nothing where what stands for its hash is no item
+-- a string with a head whose hash is no item decodes to nothing
 pub hashless : (text : List ℕ) (h : Head) → IsHeadOf text h → (IsSomeItem h.hash.now → ⊥) → SpellsNothing text
 hashless text h head none d s = none (d.hash, (items_at text h d head s).1)
 
--- a string whose salt and hash are items decodes to a value
+-- a string with a head whose salt and hash are items decodes to a value
 pub spelling_at : (text : List ℕ) (h : Head) → IsHeadOf text h → IsSomeItem h.salt.now → IsSomeItem h.hash.now → IsSpellingOf text h
 spelling_at text h head (salt, salt_item) (hash, hash_item) = (
   salt,
@@ -228,13 +228,13 @@ spelling_at text h head (salt, salt_item) (hash, hash_item) = (
 
 -- ---- what is written in steps is the encoded hash
 
--- the front, and then the salt, a `$` and the hash, each written behind it, are the value's string
+-- the front followed by the salt, a `$` and the hash, written one by one, is the value's string
 pub text_in_steps : (c : Config) (salt hash front with_salt with_mark whole : List ℕ) → front ≡ front_of c → with_salt ≡ front ++ base64 salt
     → with_mark ≡ with_salt ++ codes "$" → whole ≡ with_mark ++ base64 hash → whole ≡ text_of (spelled_of c salt hash)
 unfolding text_of
 text_in_steps c salt hash front with_salt with_mark whole e0 e1 e2 e3 = rw (e3, e2, e1, e0) (simp append_assoc)
 
--- the result of reading a part as an option, without the fault
+-- `result_ok` drops the fault of a result: `Some` has the value that was read, and for `None` `Nothing` holds
 pub read_part : {A E : Type 0} → (Nothing : Type 0) (IsRead : A → Type 0) (IsFault : E → Type 0) (r : Result A E)
     → MatchResult r IsRead (λ e. IsFault e × Nothing) → MatchOption (result_ok r) Nothing IsRead
 read_part Nothing IsRead IsFault (Ok a) h = h

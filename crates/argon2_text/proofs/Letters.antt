@@ -1,4 +1,4 @@
--- The letters of base64 by sums.
+-- The letters of base64, computed by sums.
 use Rattle.std.proofs.Common.{◌≡◌, ℕ, zero, suc, ◌+◌, ◌*◌, ◌/◌, ◌%◌, ◌<◌, ◌==◌, not, ◌||◌, ◌&&◌, ◌≤◌, nat_lt, List, [], ◌∷◌, ◌++◌, length, get_or}
 use Rattle.std.proofs.Common.{slice_index, refl, sym, ap, subst, ◌∙◌, arith, inl, inr}
 use Rattle.std.specs.Prelude.{◌↔◌}
@@ -18,32 +18,32 @@ use Rattle.argon2_text.specs.Views.Letters.{bits_of, bytes_read, fault_of, fault
 abbrev pub alphabet : List ℕ
 alphabet = engine_symbols standard_no_pad
 
--- ---- one letter, for each of the 64 and each of the 256 bytes
+-- ---- one letter, checked for each of the 64 letters and each of the 256 bytes
 
--- the letter of six bits is the one that stands in the alphabet at their place
+-- `letter_of` of a number below 64 is the letter at that index of the alphabet
 pub letter_at : (bits : ℕ) → bits < 64 → letter_of bits ≡ slice_index alphabet bits
 letter_at bits small =
     let test = λ (v : ℕ). letter_of v == slice_index alphabet v in
     eqb-true (letter_of bits) (slice_index alphabet bits) (all_below_at test 64 bits refl small)
 
--- a letter of the alphabet gives its place
+-- `bits_of` of the letter at an index of the alphabet is that index
 bits_at : (bits : ℕ) → bits < 64 → bits_of (slice_index alphabet bits) ≡ bits
 bits_at bits small =
     let test = λ (v : ℕ). bits_of (slice_index alphabet v) == v in
     eqb-true (bits_of (slice_index alphabet bits)) bits (all_below_at test 64 bits refl small)
 
--- a letter of the alphabet is no fault
+-- `fault_of` of a letter of the alphabet is 0
 fault_at : (bits : ℕ) → bits < 64 → fault_of (slice_index alphabet bits) ≡ 0
 fault_at bits small =
     let test = λ (v : ℕ). fault_of (slice_index alphabet v) == 0 in
     eqb-true (fault_of (slice_index alphabet bits)) 0 (all_below_at test 64 bits refl small)
 
--- a byte that is no fault
+-- `byte` is the letter at index `bits_of byte` of the alphabet
 pub record IsLetter (byte : ℕ) : Type 0 where
   pub small : bits_of byte < 64
   pub same : slice_index alphabet (bits_of byte) ≡ byte
 
--- a byte that is no fault is a letter of the alphabet, at the place of its bits
+-- a byte whose `fault_of` is 0 is the letter at index `bits_of byte` of the alphabet
 letter_from : (byte : ℕ) → byte < 256 → fault_of byte ≡ 0 → IsLetter byte
 letter_from byte small none =
     let test = λ (b : ℕ). not (fault_of b == 0) || (nat_lt (bits_of b) 64 && (slice_index alphabet (bits_of b) == b)) in
@@ -97,7 +97,7 @@ three_again a b c d rest x y z w =
     let e3 : third_byte c d % 64 ≡ bits_of d = omega arith in
     rw (e0, e1, e2, e3, x.same, y.same, z.same, w.same) refl
 
--- what is read of any string is bytes
+-- `bytes_read` of any string is a list of bytes
 read_bytes : (text : List ℕ) → IsBytes (bytes_read text)
 unfolding bytes_read
 read_bytes [] i = omega arith
@@ -112,7 +112,7 @@ read_bytes (a ∷ b ∷ c ∷ d ∷ rest) (suc zero) = omega arith
 read_bytes (a ∷ b ∷ c ∷ d ∷ rest) (suc (suc zero)) = omega arith
 read_bytes (a ∷ b ∷ c ∷ d ∷ rest) (suc (suc (suc i))) = read_bytes rest i
 
--- a string without faults is the symbols of what is read of it
+-- a string of bytes without faults consists of the symbols of the bytes read from it
 symbols_again : (text : List ℕ) → IsBytes text → faults_of text ≡ 0 → text ≡ encode_symbols alphabet (bytes_read text)
 unfolding faults_of bytes_read
 symbols_again [] fits none = no_symbols
@@ -154,14 +154,14 @@ symbols_right (a ∷ b ∷ c ∷ rest) fits =
       fault_at (c % 64) (omega arith),
     ) (omega (arith, symbols_right rest (λ i. fits (suc (suc (suc i))))))
 
--- a string is an item exactly where it has no faults
+-- a string of bytes is an item exactly if the string has no faults
 pub faults_tell : (text : List ℕ) → IsBytes text → (faults_of text ≡ 0) ↔ IsSomeItem text
 faults_tell text fits = (
   λ none. (bytes_read text, record { encoded = symbols_again text fits none ∙ sym (base64-symbols (bytes_read text)); bytes_fit = read_bytes text }),
   λ (bytes, item). ap faults_of (item.encoded ∙ base64-symbols bytes) ∙ symbols_right bytes item.bytes_fit,
 )
 
--- an item's bytes are those that are read of it
+-- a string that is an item is the base64 of the bytes that `bytes_read` reads from it
 pub item_read : (text : List ℕ) → IsBytes text → IsSomeItem text → IsItem text (bytes_read text)
 item_read text fits some =
     let none = (faults_tell text fits).1 some in
@@ -174,20 +174,20 @@ abbrev pub listed : (ℕ → ℕ) → ℕ → List ℕ
 listed f zero = []
 listed f (suc n) = f 0 ∷ listed (λ i. f (suc i)) n
 
--- a list of length n is what stands at its n places
+-- a list of length n equals the list of its elements at the indices below n
 pub placed : (l : List ℕ) (n : ℕ) → length l ≡ n → l ≡ listed (λ i. get_or l i 0) n
 placed [] n e = rw (← e) refl
 placed (x ∷ l) n e = rw (← e) (ap (λ (t : List ℕ). x ∷ t) (placed l (length l) refl))
 
 -- ---- a string in groups of four letters
 
--- the faults of four letters are those of each
+-- the faults of four letters are the sum of the faults of each letter
 pub group_faults : (group : List ℕ) → length group ≡ 4
     → faults_of group ≡ fault_of (get_or group 0 0) + fault_of (get_or group 1 0) + fault_of (get_or group 2 0) + fault_of (get_or group 3 0)
 unfolding faults_of
 group_faults group four = omega (arith, ap faults_of (placed group 4 four))
 
--- behind four letters the faults are those of the rest
+-- the faults of four letters and a rest are the faults of the four letters plus the faults of the rest
 pub faults_behind : (group rest : List ℕ) → length group ≡ 4 → faults_of (group ++ rest) ≡ faults_of group + faults_of rest
 unfolding faults_of
 faults_behind group rest four =
@@ -196,7 +196,7 @@ faults_behind group rest four =
 
 -- ---- the bytes, group by group
 
--- behind four letters the bytes are those of the rest
+-- the bytes of four letters and a rest are the bytes of the four letters and then the bytes of the rest
 pub read_behind : (group rest : List ℕ) → length group ≡ 4 → bytes_read (group ++ rest) ≡ bytes_read group ++ bytes_read rest
 unfolding bytes_read
 read_behind group rest four =
@@ -211,7 +211,7 @@ none_read (a ∷ b ∷ rest) short = absurd (omega arith)
 
 -- ---- the letters, group by group
 
--- base64 of three bytes, of two and of one, and of three bytes and a rest
+-- the four letters computed from three bytes are the base64 of these bytes
 pub three_written : (group : List ℕ) → length group ≡ 3 → IsBytes group → letter_of (get_or group 0 0 / 4)
     ∷ letter_of (get_or group 0 0 % 4 * 16 + get_or group 1 0 / 16) ∷ letter_of (get_or group 1 0 % 16 * 4 + get_or group 2 0 / 64)
     ∷ letter_of (get_or group 2 0 % 64) ∷ [] ≡ base64 group
@@ -227,10 +227,12 @@ three_written group three fits =
       letter_at (get_or group 2 0 % 64) (omega arith),
     ) (sym (ap base64 (placed group 3 three)))
 
+-- the base64 of no byte is empty
 pub none_written : (tail : List ℕ) → length tail < 1 → [] ≡ base64 tail
 unfolding encode_symbols
 none_written tail short = sym (ap base64 (placed tail 0 (omega arith)))
 
+-- the two letters computed from one byte are the base64 of this byte
 pub one_written : (tail : List ℕ) → 1 ≤ length tail → length tail < 2 → IsBytes tail
     → letter_of (get_or tail 0 0 / 4) ∷ letter_of (get_or tail 0 0 % 4 * 16) ∷ [] ≡ base64 tail
 unfolding encode_symbols
@@ -238,6 +240,7 @@ one_written tail long short fits =
     let x : get_or tail 0 0 < 256 = fits 0 in
     rw (letter_at (get_or tail 0 0 / 4) (omega arith), letter_at (get_or tail 0 0 % 4 * 16) (omega arith)) (sym (ap base64 (placed tail 1 (omega arith))))
 
+-- the three letters computed from two bytes are the base64 of these bytes
 pub two_written : (tail : List ℕ) → 2 ≤ length tail → length tail < 3 → IsBytes tail → letter_of (get_or tail 0 0 / 4)
     ∷ letter_of (get_or tail 0 0 % 4 * 16 + get_or tail 1 0 / 16) ∷ letter_of (get_or tail 1 0 % 16 * 4) ∷ [] ≡ base64 tail
 unfolding encode_symbols
@@ -250,6 +253,6 @@ two_written tail long short fits =
       letter_at (get_or tail 1 0 % 16 * 4) (omega arith),
     ) (sym (ap base64 (placed tail 2 (omega arith))))
 
--- behind three bytes base64 begins afresh
+-- the base64 of three bytes and a rest is the base64 of the three bytes and then the base64 of the rest
 pub written_behind : (group rest : List ℕ) → length group ≡ 3 → base64 (group ++ rest) ≡ base64 group ++ base64 rest
 written_behind group rest three = encode_of-append standard_no_pad group rest (omega (arith, three))

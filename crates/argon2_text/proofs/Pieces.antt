@@ -14,8 +14,8 @@ use Rattle.std.specs.Str.Parse.{IsNumeral, AllDigits, ParsesUnsigned, digits_val
 use Rattle.std.specs.Result.{result_ok}
 use Rattle.std.proofs.lemmas.Str.Parse.{digit_from_value, without_leading_plus_none, without_leading_plus_plus}
 
--- ---- cutting a string at a byte and after a front, joining the parts again, and the results of std's methods as
--- results of `cut` and `strip`
+-- ---- cutting a string at a byte (`cut`) and after a front (`strip`), joining the parts again, and how std's methods
+-- give the same results
 
 -- ---- Lacks, by places
 
@@ -58,7 +58,7 @@ pub cut-again : (c : ℕ) (a rest : List ℕ) → Lacks c a → cut c (a ++ c �
 cut-again c [] rest lacks = rw (eq-eqb c c refl) refl
 cut-again c (x ∷ a) rest lacks = rw (ne_eqb x c lacks.0, cut-again c a rest lacks.1) refl
 
--- a string without c is not cut
+-- cutting at c finds nothing in a string without c
 pub cut_none : (c : ℕ) (bs : List ℕ) → Lacks c bs → cut c bs ≡ None
 cut_none c [] lacks = refl
 cut_none c (x ∷ bs) lacks = rw (ne_eqb x c lacks.0, cut_none c bs lacks.1) refl
@@ -75,7 +75,7 @@ strip_gives front text (Some x) h =
     let whole : text ≡ front ++ x.now = rw h.2 h.1.1 in
     sym (ap (strip front) whole ∙ strip-again front x.now)
 
--- a string is cut at the place of its first mark
+-- a string with its first mark at index `at` is cut into its first `at` bytes and what is behind the mark
 pub cut_at : (mark : ℕ) (text : List ℕ) (at : ℕ) → at < length text → get_or text at 0 ≡ mark → ((i : ℕ) → i < at → get_or text i 0 ≢ mark)
     → cut mark text ≡ Some (take at text, drop 1 (drop at text))
 cut_at mark [] at lt is before = absurd (omega arith)
@@ -102,7 +102,7 @@ around c (x ∷ bs) = elim (cases_eq x c) [
       ]
 ]
 
--- where a cut is found, the string is the first part, which lacks the mark, the mark and the rest
+-- where a cut is found, the string is a first part, the mark and the rest; the first part lacks the mark
 pub cut_found : (c : ℕ) (bs a rest : List ℕ) → cut c bs ≡ Some (a, rest) → (bs ≡ a ++ c ∷ rest) × Lacks c a
 cut_found c bs a rest e = elim (around c bs) [
   | inl lacks ↦ let none = cut_none c bs lacks in absurd cc
@@ -114,7 +114,7 @@ cut_found c bs a rest e = elim (around c bs) [
 
 -- ---- the two theorems of cutting: the pieces that are found are the string's, and clean pieces are found again
 
--- the value of a step that did not fail
+-- if `o >>= f` is `Some y`, then o is `Some x` for some x, and `f x` is `Some y`
 bind_some : {A B : Type 0} (o : Option A) (f : A → Option B) (y : B) → (o >>= f) ≡ Some y → (x : A) × (o ≡ Some x) × (f x ≡ Some y)
 bind_some None f y e = absurd cc
 bind_some (Some x) f y e = (x, refl, e)
@@ -135,7 +135,7 @@ piece_found front mark text a rest e =
 
 -- ---- the version
 
--- the version as it stands behind the `$` of the name
+-- the version as it is written behind the `$` after the name, and then the rest of the string
 abbrev version_front : Option (List ℕ) → List ℕ → List ℕ
 version_front None rest = rest
 version_front (Some number) rest = codes "v=" ++ (number ++ 36 ∷ rest)
@@ -168,13 +168,13 @@ version_piece_found text version rest e = version_behind_found text (strip (code
 
 -- ---- all pieces
 
--- the pieces in the order in which they are cut
+-- the string of the pieces, nested to the right in the order in which the code cuts it
 abbrev nested : Pieces → List ℕ
 nested p =
     codes "$" ++ (p.name ++ 36 ∷ version_front p.version
     (codes "m=" ++ (p.memory ++ 44 ∷ (codes "t=" ++ (p.time ++ 44 ∷ (codes "p=" ++ (p.lanes ++ 36 ∷ (p.salt ++ 36 ∷ p.hash))))))))
 
--- the string of pieces, given one by one, is the same in the order in which they are cut
+-- the string of pieces that are given one by one is `nested` of these pieces
 joined_nested_at : (name : List ℕ) (version : Option (List ℕ)) (memory time lanes salt hash : List ℕ)
     → text_of_pieces (record { name = name; version = version; memory = memory; time = time; lanes = lanes; salt = salt; hash = hash })
     ≡ nested (record { name = name; version = version; memory = memory; time = time; lanes = lanes; salt = salt; hash = hash })
@@ -182,7 +182,7 @@ unfolding text_of_pieces
 joined_nested_at name None memory time lanes salt hash = simp append_assoc
 joined_nested_at name (Some number) memory time lanes salt hash = simp append_assoc
 
--- the string of pieces is the same in the order in which they are cut
+-- the string of the pieces p is `nested p`
 joined-nested : (p : Pieces) → text_of_pieces p ≡ nested p
 joined-nested p = joined_nested_at p.name p.version p.memory p.time p.lanes p.salt p.hash
 
@@ -212,14 +212,14 @@ pieces-again p clean =
       cut-again 36 p.salt p.hash clean.salt,
     ) refl
 
--- if the string of each step contains that of the next step, the first string is the nested pieces
+-- if each step's string is a piece with its marks and then the next step's string, the first string is `nested p`
 nested_from : (p : Pieces) (text after_name after_version after_memory after_time after_lanes : List ℕ) → text ≡ codes "$" ++ (p.name ++ 36 ∷ after_name)
     → after_name ≡ version_front p.version after_version → after_version ≡ codes "m=" ++ (p.memory ++ 44 ∷ after_memory)
     → after_memory ≡ codes "t=" ++ (p.time ++ 44 ∷ after_time) → after_time ≡ codes "p=" ++ (p.lanes ++ 36 ∷ after_lanes)
     → after_lanes ≡ p.salt ++ 36 ∷ p.hash → text ≡ nested p
 nested_from p text after_name after_version after_memory after_time after_lanes e1 e2 e3 e4 e5 e6 = rw (e1, e2, e3, e4, e5, e6) refl
 
--- the pieces that are found in a string are a split of it
+-- the pieces that `pieces_of` finds in a string are a split of the string (`IsSplit`)
 pub pieces_found : (text : List ℕ) (p : Pieces) → pieces_of text ≡ Some p → IsSplit text p
 unfolding pieces_of
 pieces_found text p e =
@@ -248,14 +248,14 @@ pieces_found text p e =
       salt = last.1;
     })
 
--- ---- what `parse` reads as a number is what the grammar calls one
+-- ---- `parse` reads as numbers exactly the strings that the grammar calls numbers
 
 -- a decimal numeral does not begin with a plus
 digits_begin : (ds : List ℕ) → IsNumeral 10 ds → get_or ds 0 0 ≢ 43
 digits_begin [] h e = omega (arith, h.0)
 digits_begin (d ∷ ds) h e = let r = digit_from_value d h.1.0 in omega arith
 
--- the digits of a number are what `parse` reads
+-- a number's text without its plus, if any, is the number's digits
 number_digits : (text sign digits : List ℕ) → text ≡ sign ++ digits → (sign ≡ []) ⊎ (sign ≡ codes "+") → IsNumeral 10 digits
     → without_leading_plus text ≡ digits
 number_digits text sign digits whole plus numeral = elim plus [
@@ -299,7 +299,7 @@ number_from_parse text numeral fits = elim (cases_eq (get_or text 0 0) 43) [
       }
 ]
 
--- a number that `parse` gives is the one that the string decodes to; where it fails, there is none
+-- if `parse` returns a number, the string decodes to that number; if `parse` fails, the string decodes to no number
 pub number_gives : {E : Type 0} → (text : List ℕ) (r : Result ℕ E) → ParsesUnsigned 32 10 text r → MatchOption (result_ok r) (IsNoNumber text) (IsNumber text)
 number_gives text (Ok n) h = rw (h.1) (number_from_parse text h.0.0 h.0.1)
 number_gives text (Err e) h = λ n number.
@@ -307,7 +307,8 @@ number_gives text (Err e) h = λ n number.
     let small : digits_value 10 number.digits < 2 ^ 32 = rw number.value number.fits in
     h (rw read (number.decimal, small))
 
--- the same for digits that are read one by one, without `parse`
+-- if reading the digits one by one, without `parse`, gives n, the string decodes to n; if the reading fails, the string
+-- decodes to no number
 pub number_of_digits : (text ds : List ℕ) (r : Option ℕ) → without_leading_plus text ≡ ds
     → MatchOption r (IsNumeral 10 ds → digits_value 10 ds < 2 ^ 32 → ⊥) (λ n. IsNumeral 10 ds × (digits_value 10 ds ≡ n) × (n < 2 ^ 32))
     → MatchOption r (IsNoNumber text) (IsNumber text)
@@ -320,7 +321,7 @@ number_of_digits text ds (Some n) same h =
     let fits : digits_value 10 ds < 2 ^ 32 = omega (arith, h.1, h.2) in
     rw (← h.1, ← same) (number_from_parse text (rw same h.0) (rw same fits))
 
--- a string decodes to one number
+-- a string decodes to at most one number
 pub number_unique : (text : List ℕ) (m n : ℕ) → IsNumber text m → IsNumber text n → m ≡ n
 number_unique text m n a b =
     let first = number_digits text a.sign a.digits a.whole a.plus a.decimal in

@@ -22,12 +22,13 @@ use Rattle.argon2_text.proofs.Items.{length-base64}
 
 -- ---- buffers that are filled piece by piece
 
--- a buffer that a piece fills to its end is what was before and then that piece, or a list equal to the piece
+-- if a piece behind `before` ends the buffer `new`, the buffer is `before` and then `same`, a list equal to the piece
 pub all_put : (before new piece same : List ℕ) (end : ℕ) → take end new ≡ before ++ piece → end ≡ length new → piece ≡ same → new ≡ before ++ same
 all_put before new piece same end front whole is =
     sym (take_all end new (omega (arith, whole))) ∙ front ∙ ap (λ (x : List ℕ). before ++ x) is
 
--- if a rest is cut in two and f of its first part was put, f of its second part, put next, completes f of the rest
+-- for an f that can be applied part by part: if f of the first n elements of `rest` is written behind `before`, then
+-- appending f of the other elements gives `before` and then f of `rest`
 pub put_ahead : (f : List ℕ → List ℕ) (before new piece rest group behind : List ℕ) (n end : ℕ) → take end new ≡ before ++ piece → piece ≡ f group
     → group ≡ take n rest → behind ≡ drop n rest → f (group ++ behind) ≡ f group ++ f behind → take end new ++ f behind ≡ before ++ f rest
 put_ahead f before new piece rest group behind n end front is first second parts =
@@ -54,11 +55,11 @@ unfolding digits
 IsAscii-version Version10 = told (codes "16") refl
 IsAscii-version Version13 = told (codes "19") refl
 
--- what is ASCII, with a mark and a piece behind it that are ASCII
+-- an ASCII string, followed by an ASCII mark and an ASCII piece, is ASCII
 with_piece : (before mark piece : List ℕ) → IsAscii before → list_all (λ b. nat_lt b 128) mark ≡ true → IsAscii piece → IsAscii (before ++ mark ++ piece)
 with_piece before mark piece front ascii back = IsAscii-append (before ++ mark) piece (IsAscii-append before mark front (told mark ascii)) back
 
--- the string of numbers that fit 64 bits is ASCII
+-- the encoded hash of a value whose costs and lanes fit 64 bits is ASCII
 pub IsAscii-text_of : (d : Spelled) → d.mem_cost < 2 ^ 64 → d.time_cost < 2 ^ 64 → d.parallelism < 2 ^ 64 → IsAscii (text_of d)
 unfolding text_of
 IsAscii-text_of d memory time lanes =
@@ -84,11 +85,11 @@ unfolding digits
 length-version Version10 = refl
 length-version Version13 = refl
 
--- the length of an encoded hash, its marks and its version making up 17
+-- an encoded hash is as long as its name, numbers, salt and hash together, plus 17 for the marks and the version
 pub length-text_of : (d : Spelled) → length (text_of d) ≡ 17 + length (lowercase_name d.variant)
     + (length (decimal d.mem_cost) + length (decimal d.time_cost) + length (decimal d.parallelism)) + length (base64 d.salt) + length (base64 d.hash)
 unfolding text_of
 length-text_of d = simp (length-append, length-version d.version) (omega arith)
 
--- the lengths of pieces and of the whole
+-- the rules for the lengths of a version, of base64 and of an encoded hash
 pub ruleset lengths = (length-version, length-base64, length-text_of)

@@ -63,8 +63,8 @@ undo_diagonals words =
     pick_l 0 words (1 ∷ 2 ∷ 3 ∷ 0 ∷ 4 ∷ 5 ∷ 6 ∷ 7 ∷ 11 ∷ 8 ∷ 9 ∷ 10 ∷ 14 ∷ 15 ∷ 12 ∷ 13 ∷ [])
 
 -- a vector with each half rotated by this many lanes
-abbrev pub turned_halves : ℕ → List ℕ → List ℕ
-turned_halves by a = map (λ i. slice_index a (4 * (i / 4) + (i + by) % 4)) (range_with_len 0 8)
+abbrev pub rotated_halves : ℕ → List ℕ → List ℕ
+rotated_halves by a = map (λ i. slice_index a (4 * (i / 4) + (i + by) % 4)) (range_with_len 0 8)
 
 -- the first, and the last, four lanes of each of two vectors
 abbrev pub low_halves : List ℕ → List ℕ → List ℕ

@@ -9,7 +9,7 @@ ghost use Rattle.std.specs.Prelude.{◌≡◌, ◌<◌, ◌≤◌, ◌+◌, ◌*
 ghost use Rattle.std.specs.Simd.Lanes.{zip2, Each1, chunk, put_chunk};
 ghost use Rattle.argon2_blocks.specs.Standard.Block.{xor};
 ghost use Rattle.argon2_blocks.specs.Standard.Compression.{block_of_registers, compress_g, permute_p, permute_rows, registers_of, transpose};
-ghost use Rattle.argon2_blocks.specs.Views.Lanes.{column, vector_pair, vector_words, diagonals, four_and_four, high_halves, low_halves, nth_vector, odd_and_even, spread_row, turned_halves, undo_diagonals};
+ghost use Rattle.argon2_blocks.specs.Views.Lanes.{column, vector_pair, vector_words, diagonals, four_and_four, high_halves, low_halves, nth_vector, odd_and_even, spread_row, rotated_halves, undo_diagonals};
 
 use super::Block;
 use super::lanes::{facts_of_vector, mix_two};
@@ -56,7 +56,7 @@ fn odd_and_even(a: u64x8, b: u64x8) -> u64x8
 // Each half of the vector rotated by one lane.
 #[inline(always)]
 fn turn_by_one(a: u64x8) -> u64x8
-    ensures { result ≡ turned_halves 1 a }
+    ensures { result ≡ rotated_halves 1 a }
 {
     facts_of_vector(a);
     a.swizzle([1, 2, 3, 0, 5, 6, 7, 4])
@@ -64,7 +64,7 @@ fn turn_by_one(a: u64x8) -> u64x8
 
 #[inline(always)]
 fn turn_by_two(a: u64x8) -> u64x8
-    ensures { result ≡ turned_halves 2 a }
+    ensures { result ≡ rotated_halves 2 a }
 {
     facts_of_vector(a);
     a.swizzle([2, 3, 0, 1, 6, 7, 4, 5])
@@ -72,7 +72,7 @@ fn turn_by_two(a: u64x8) -> u64x8
 
 #[inline(always)]
 fn turn_by_three(a: u64x8) -> u64x8
-    ensures { result ≡ turned_halves 3 a }
+    ensures { result ≡ rotated_halves 3 a }
 {
     facts_of_vector(a);
     a.swizzle([3, 0, 1, 2, 7, 4, 5, 6])

@@ -19,7 +19,7 @@ pub record IsEntry (s : Setting) (order : ℕ → List ℕ) (n : ℕ) (before : 
   pub slice_fits : n < 4 * s.passes
   pub stands : order n ≡ before ++ lane ∷ after
 
--- how far the run is before that entry, and the place that the entry writes
+-- the progress of a run's slice number n before an entry, and the place that the entry writes
 abbrev pub progress_before : Setting → (ℕ → List ℕ) → Matrix → ℕ → List ℕ → Progress
 progress_before s order matrix n before = progress s (n / 4) (n % 4) (after_slices s order n matrix) before
 
@@ -31,7 +31,7 @@ abbrev pub EveryOrderAgrees : Type 0
 EveryOrderAgrees = (s : Setting) (order : ℕ → List ℕ) (matrix : Matrix) → IsRun s order matrix →
     HoldsLastPass s (after_slices s order (4 * s.passes) matrix)
 
--- no entry reads a place that another lane writes in that slice
+-- no entry reads a place that another lane writes in the entry's slice
 abbrev pub NoEntryReadsOthers : Type 0
 NoEntryReadsOthers = (s : Setting) (order : ℕ → List ℕ) (matrix : Matrix) → IsRun s order matrix →
     (n : ℕ) (before : List ℕ) (lane : ℕ) (after : List ℕ) → IsEntry s order n before lane after →

@@ -83,7 +83,7 @@ step s pass slice p lane =
       done = λ l. if l == lane then p.done l + 1 else p.done l;
     }
 
--- how far a slice is after some entries
+-- the progress of a slice after some entries
 abbrev pub progress : Setting → ℕ → ℕ → Matrix → List ℕ → Progress
 progress s pass slice matrix entries = fold (step s pass slice) (record { matrix = matrix; done = λ _. 0 }) entries
 

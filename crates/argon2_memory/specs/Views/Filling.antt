@@ -27,7 +27,7 @@ pub record IsBeside (v : SnapshotValue) : Type 0 where
   pub blocks : (slice lane : ℕ) → slice < 4 → slice ≢ v.job.slice → lane < v.job.setting.lanes →
       length (other_blocks v slice lane) ≡ v.job.setting.segment_length
 
--- the same, with the blocks that a fill of the job needs
+-- the other slices meet `IsBeside` and hold the blocks that a fill of the job needs
 pub record IsSnapshot (v : SnapshotValue) : Type 0 where
   pub beside : IsBeside v
   pub held : HoldOthers v.job (other_blocks v)
@@ -57,7 +57,7 @@ block_seen v blocks lane column =
     let index = column % v.job.setting.segment_length in
     if slice == v.job.slice then slice_index_or blocks index [] else slice_index_or (other_blocks v slice lane) index []
 
--- a segment that is filled up to an index: the blocks below it are of this pass, and the others
+-- a segment that is filled up to `index`: the blocks below `index` are of the job's pass, and the others
 -- still of the pass before
 pub record IsFilledTo (j : Job) (lane index : ℕ) (blocks : List (List ℕ)) : Type 0 where
   pub count : length blocks ≡ j.setting.segment_length

@@ -20,8 +20,8 @@ pub record IsPosition (s : Setting) (at : Position) : Type 0 where
   pub lane_fits : at.lane < s.lanes
   pub column_fits : at.column < lane_length s
 
--- the index from which a pass writes the segments of a slice: the first two blocks of each lane
--- are there before it begins
+-- the index from which a pass writes the segments of a slice: in the first slice of pass 0, the first
+-- two blocks of each lane are already written
 abbrev pub first_written : ℕ → ℕ → ℕ
 first_written pass slice = if (pass == 0) && (slice == 0) then 2 else 0
 

@@ -7,7 +7,7 @@ use Rattle.argon2_memory.specs.declared.segment.own_blocks.Segment.{Segment}
 use Rattle.argon2_memory.specs.Views.Segments.{wiped_segment, with_block, zero_segment}
 use Rattle.argon2_memory.specs.Standard.Kept.{SegmentValue, MemoryValue, segment_in}
 
--- four slices, each with a segment of L blocks for each of p lanes
+-- four slices, each with a segment of len blocks for each of p lanes
 pub record AreSlices (p len : ℕ) (slices : List (List SegmentValue)) : Type 0 where
   pub count : length slices ≡ 4
   pub lanes : (slice : ℕ) → slice < 4 → length (slice_index_or slices slice []) ≡ p
@@ -49,7 +49,7 @@ zero_memory lanes segment_length = record {
 abbrev pub wiped_memory : MemoryValue → MemoryValue
 wiped_memory m = record m { slices = map (map wiped_segment) m.slices }
 
--- the slices with a block written at a lane and index
+-- the slices after a block is written at a slice, lane and index
 abbrev pub set_in : List (List SegmentValue) → ℕ → ℕ → ℕ → List ℕ → List (List SegmentValue)
 set_in slices slice lane index block =
     slice_set slices slice (slice_set (slice_index_or slices slice []) lane (with_block (segment_in slices slice lane) index block))

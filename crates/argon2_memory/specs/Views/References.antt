@@ -9,7 +9,7 @@ use Rattle.argon2_standard.specs.Standard.Reference.{pick}
 use Rattle.argon2_standard.specs.Standard.Recurrence.{address_word, block_at, drawn_word}
 use Rattle.argon2_memory.specs.Views.Jobs.{Job, first_written, position_of}
 
--- ---- of one block
+-- ---- references of one block
 
 -- the lane and column that a word picks for a block
 abbrev pub pick_of : Job → ℕ → ℕ → ℕ → ℕ × ℕ
@@ -45,7 +45,7 @@ reference_set_column j position =
     if nat_lt position (left_columns j) then j.slice * j.setting.segment_length + j.setting.segment_length + position
     else position - left_columns j
 
--- ---- of a segment
+-- ---- references of a segment
 
 -- the lane and column of each reference of a segment, by index. In the first slice of pass 0 the indexes begin at 2
 abbrev pub positions_in : Setting → ℕ → ℕ → ℕ → List (ℕ × ℕ)
@@ -56,7 +56,7 @@ positions_in s pass slice lane =
     let chosen = pick s (address_word s at) at in
     (chosen.lane, chosen.column)) (range_with_len first (s.segment_length - first))
 
--- the same without a prehash and with any version, since the references depend on neither
+-- `positions_in` without a prehash and with any version, since the references depend on neither
 abbrev pub reference_positions_of : Variant → ℕ → ℕ → ℕ → ℕ → ℕ → ℕ → List (ℕ × ℕ)
 reference_positions_of variant lanes segment_length passes pass slice lane =
     let s : Setting = record {

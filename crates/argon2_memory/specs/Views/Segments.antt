@@ -42,7 +42,7 @@ with_block segment index block = record {
 abbrev pub zero_segment : ℕ → SegmentValue
 zero_segment length = record { blocks = replicate length zero_block; tally = 0 }
 
--- a segment of as many blocks, all zeros and none counted as written
+-- a segment with the same number of blocks, all zeros and none counted as written
 abbrev pub wiped_segment : SegmentValue → SegmentValue
 wiped_segment s = zero_segment (length s.blocks)
 
@@ -61,12 +61,12 @@ pub record IsMadeInPart (made : List (List ℕ)) (count capacity zeros : ℕ) : 
 
 -- ---- the block that a source names
 
--- one of the segment's own blocks, or the other one
+-- a source names one of the segment's own blocks, or another block
 abbrev pub source_block : List (List ℕ) → Source → List ℕ
 source_block blocks (Own index) = slice_index_or blocks index []
 source_block blocks (Other block) = block.now
 
--- an own block comes before the index
+-- if a source names an own block, that block is before the index
 abbrev pub IsBefore : ℕ → Source → Type 0
 IsBefore index (Own at) = at < index
 IsBefore index (Other block) = Unit {0}

@@ -7,7 +7,7 @@ use Rattle.argon2_text.proofs.Items.{length-base64}
 use Rattle.argon2_text.proofs.Writing.{length-text_of}
 use Rattle.argon2_scheduled.proofs.main.Goals as goal
 
--- the length of the encoded hash of 32 bytes with 16 bytes of salt
+-- at these settings, the encoded hash of a tag of 32 bytes with 16 bytes of salt has 94 bytes
 text_length : (salt tag : List ℕ) → length salt ≡ 16 → length tag ≡ 32 → length (text_of (record {
   variant = Argon2id;
   version = Version13;

@@ -1,4 +1,4 @@
--- The head of a string that decodes to a value is rejected as the value is.
+-- The head of a string is rejected with the error of the value that the string decodes to.
 use Rattle.argon2.proofs.StoredHashes.{head_accepted, head_rejected, spells_some}
 use Rattle.argon2.proofs.stored.accepted_spelling.Goals as goal
 

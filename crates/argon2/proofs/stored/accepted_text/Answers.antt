@@ -1,4 +1,4 @@
--- A head that was accepted is decoded, and one that was rejected is rejected.
+-- An accepted head is decoded, and the error of a rejected head is the answer.
 use Rattle.std.proofs.Common.{◌≡◌}
 use Rattle.std.proofs.lemmas.Result.{err_from_is_err_and}
 use Rattle.argon2_text.specs.declared.decoded.Decoded.{Decoded}

@@ -1,4 +1,4 @@
--- Both sides of each equation compute to the same.
+-- Both sides of each equation compute to the same value.
 use Rattle.std.proofs.Common.{refl}
 use Rattle.argon2_blocks.specs.Standard.Block.{xor}
 use Rattle.argon2_blocks.specs.Standard.Compression.{add_product, block_of_registers, compress_g, half_gb, mix_gb, permute_p, permute_rows}

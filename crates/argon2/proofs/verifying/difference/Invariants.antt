@@ -4,7 +4,7 @@ use Rattle.std.specs.List.{fold, zip}
 use Rattle.argon2.specs.Views.StoredHashes.{difference_of}
 use Rattle.argon2.proofs.verifying.difference.Given as goal
 
--- gathering what is left onto the difference so far gives the difference of all
+-- or-ing the differences of the bytes from index `at` on into `difference` gives the difference of the whole lists
 abbrev pub invariant-loop-at : goal.invariant-loop-at
 invariant-loop-at l =
     fold (λ difference (a, b). bit_or difference (bit_xor a b)) l.difference (zip (drop l.at l.one) (drop l.at l.other)) ≡ difference_of l.one l.other

@@ -3,7 +3,7 @@
 -- `walk` has one step for each statement. No statement reads or writes an element. Therefore we cut
 -- the loan of the whole slice into two loans before the first statement (`two_loans`). Then it is
 -- left to show that the machine computes the pointers and the lengths of these two loans.
--- In brackets, a comment shows what is owned at that place.
+-- A comment in brackets lists what is owned at that step of the proof.
 use Rattle.std.proofs.Common.{◌≡◌, ℕ, zero, suc, zero-mul, suc-mul, ◌+◌, ◌-◌, ◌*◌, ◌^◌, ◌<◌, ◌≤◌, List, [], ◌∷◌, ◌++◌, length, take, drop as drop_first, refl, sym, ap, subst, ◌∙◌, arith, length-drop, length-take-le, take-append-drop, mul-le-mul_right, w64, MutBor}
 use seplogic.Ra.Ura.{Ura}
 use base.Logic.{SProp, ent, sep, ex, emp}
@@ -78,8 +78,8 @@ module _ (X : RattleType) where
   stayed = (stay_dropped (SliceRefMutOf (0 ∷ []) tt (plain (λ _. R)) (λ _. tt)) no, (stay_dropped (plain (λ _. usize)) yes, tt))
 
 -- The slice `xs` is lent for the lifetime κ. It is at the offset o of the memory block b, and γ is the
--- name of its loan. A loan has a pointer, a name and the elements. The logic writes the last value of
--- a loan down under its name: so `follows` says how the value of one loan follows from two others'.
+-- name of its loan. A loan has a pointer, a name and the elements. The logic records the last value of
+-- a loan under the loan's name. So `follows` says how one loan's value follows from those of two others.
 module _ (X : RattleType) {M : Type 1} {𝓤 : Ura M} (𝓛 : Logic 𝓤) (κ : Lft) (q : Share) (b o : ℕ) (γ : GName) (xs : List X.Denot) (mid : ℕ) where
   open 𝓛 use {H, A}
 
@@ -105,7 +105,7 @@ module _ (X : RattleType) {M : Type 1} {𝓤 : Ura M} (𝓛 : Logic 𝓤) (κ : 
   abbrev Follows : GName × GName → Fml
   Follows γs = follows_both (Array (R X) 0) (Array (R X) 0) (Array (R X) 0) γ γs.0 γs.1 ◌++◌
 
-  -- what is owned of a loan, where the machine has the offset p and the count as its slice
+  -- what is owned of a loan that the machine holds as a slice of offset p and count elements
   abbrev owned : MutBor (List X.Denot) → ℕ → ℕ → Fml
   owned r p count = Loan.own_val r (slice_val (b, p) count ∷ [])
 

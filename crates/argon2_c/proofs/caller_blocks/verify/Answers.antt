@@ -1,4 +1,4 @@
--- The length of the hash replaces the settings' own in the configuration.
+-- The configuration has the length of the given hash instead of the settings' `hash_length`.
 use Rattle.std.proofs.Common.{sym}
 use Rattle.argon2_standard.specs.Standard.Prehash.{prehash_of, setting_of}
 use Rattle.argon2_standard.specs.Standard.Tag.{tag_of}

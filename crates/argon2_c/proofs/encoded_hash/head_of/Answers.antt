@@ -6,18 +6,18 @@ use Rattle.std.specs.Str.{IsAscii}
 use Rattle.std.proofs.lemmas.Nat.{le_or_l, le_or_r, or_lt}
 use Rattle.argon2_c.proofs.encoded_hash.head_of.Goals as goal
 
--- what is gathered is not below what it began with
+-- the OR of `bits` and all bytes is at least `bits`
 gathered : (bits : ℕ) (bytes : List ℕ) → bits ≤ fold (λ bits byte. bit_or bits byte) bits bytes
 gathered bits [] = omega arith
 gathered bits (x ∷ bytes) = omega (arith, le_or_l bits x, gathered (bit_or bits x) bytes)
 
--- no byte is above what is gathered
+-- no byte is greater than the OR of `bits` and all bytes
 below_all : (bits : ℕ) (bytes : List ℕ) (i : ℕ) → get_or bytes i 0 ≤ fold (λ bits byte. bit_or bits byte) bits bytes
 below_all bits [] i = omega arith
 below_all bits (x ∷ bytes) zero = omega (arith, le_or_r bits x, gathered (bit_or bits x) bytes)
 below_all bits (x ∷ bytes) (suc i) = below_all (bit_or bits x) bytes i
 
--- where each byte is below 128, so is what is gathered
+-- if `bits` and each byte are below 128, their OR is below 128
 few : (bits : ℕ) (bytes : List ℕ) → bits < 128 → IsAscii bytes → fold (λ bits byte. bit_or bits byte) bits bytes < 128
 few bits [] small ascii = small
 few bits (x ∷ bytes) small ascii = few (bit_or bits x) bytes (or_lt 7 bits x small (ascii 0)) (λ i. ascii (suc i))

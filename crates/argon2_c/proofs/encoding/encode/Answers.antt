@@ -1,4 +1,4 @@
--- The settings' own configuration has no secret and no data, like those in the clause.
+-- The settings' configuration has an empty secret and empty data, as the clause assumes of `secret` and `ad`.
 use Rattle.std.proofs.Common.{length, refl, sym, arith, ◌∙◌}
 use Rattle.argon2_c.proofs.JobNumbers.{other_inputs, same_error, accepted_salt}
 use Rattle.argon2_c.proofs.encoding.encode.Goals as goal

@@ -1,4 +1,4 @@
--- What is read is the only salt and the only hash of the head.
+-- An item decodes to one byte string only, so the salt and the hash that were read are the head's.
 use Rattle.std.proofs.Common.{length, refl, sym, ◌∙◌}
 use Rattle.argon2_text.specs.Views.Texts.{spelled_with}
 use Rattle.argon2_standard.specs.Standard.Decoded.{decoded_config}

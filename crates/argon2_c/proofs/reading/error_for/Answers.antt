@@ -1,4 +1,4 @@
--- The table has the same error for the numbers' configuration if the given secret and data replace the empty ones.
+-- With the given secret and data, the numbers' configuration has the same table error as the decoded configuration.
 use Rattle.std.proofs.Common.{◌≡◌, false, refl, sym, true, ap, ◌∙◌}
 use Rattle.argon2.specs.Standard.Limits.{is_too_costly}
 use Rattle.argon2_standard.specs.Standard.Decoded.{decoded_config}

@@ -1,4 +1,4 @@
--- What is read of an item is all that it holds.
+-- An item decodes to one byte string only, so the salt and the hash that were read are the head's.
 use Rattle.std.proofs.Common.{refl, ◌∙◌}
 use Rattle.argon2_text.proofs.Items.{item_unique}
 use Rattle.argon2_c.proofs.reading.read_items.Goals as goal

@@ -9,7 +9,7 @@ use Rattle.argon2_fill.specs.Views.Boards.{PermitsAll}
 use Rattle.argon2_fill.proofs.Passes.{filled_begun, holds_last_pass, next_slice}
 use Rattle.argon2_fill.proofs.workers.fill_parallel_with.Goals as goal
 
--- if two stretches that follow one another are permitted, so are both together
+-- if the numbers below `first` and the next `count` numbers are permitted, all numbers below `first + count` are
 permitted_more : (permits : ℕ → Bool) (first count : ℕ) → PermitsAll permits 0 first → PermitsAll permits first count → PermitsAll permits 0 (first + count)
 permitted_more permits first count front back = λ k h. elim (cases_lt k first) [
   | inl w ↦ front k w
@@ -69,7 +69,7 @@ returns-clause-shape g c =
     let same : c.new-first_job.result.setting ≡ setting_of_context c.args.context.now = ap (λ (j : Job). j.setting) c.new-first_job.ensures.value in
     rw (c.memory_of_slices.ensures, c.lanes.ensures.value, c.segment_length.ensures.value, same) (record { lanes = refl; segment_length = refl })
 
--- the numbers of all workers that are started fit 64 bits
+-- the product of the slice's number n and the number of workers fits 64 bits
 pub overflow_mul-first : goal.overflow_mul-first
 overflow_mul-first g c =
     let low : c.loop-n.n ≤ 17179869184 = omega (arith, c.new-first_job.ensures.job.setting.few_passes) in

@@ -1,4 +1,4 @@
--- The lengths passed are those of the configuration's own secret and data.
+-- The code passes the lengths of the configuration's own secret and associated data.
 use Rattle.std.proofs.Common.{refl}
 use Rattle.argon2_standard.proofs.context.first_refusal.Goals as goal
 

@@ -6,7 +6,7 @@ use Rattle.argon2_blocks.proofs.Hashing.{Holds_more, Holds_next}
 use Rattle.argon2_blocks.proofs.blake2b.Hasher.fill_buffer.Goals as goal
 use Rattle.argon2_blocks.proofs.blake2b.Hasher.fill_buffer.Goals.{then-self-eq-BLOCK_LENGTH, else-self-eq-BLOCK_LENGTH}
 
--- the hasher between the two steps: its state, buffer, used and count
+-- the hasher after F on a full buffer, if any, and before the copy of new bytes: its state, buffer, used and count
 abbrev Parts : Type 0
 Parts = MutBor Hasher × (List ℕ × (List ℕ × (ℕ × (ℕ × Unit {0}))))
 

@@ -1,4 +1,4 @@
--- A number of no variant or no version has no configuration.
+-- Settings have no configuration if their number of the variant or of the version is unknown.
 use Rattle.std.proofs.Common.{refl}
 use Rattle.argon2_c.proofs.JobNumbers.{variant_of-none, variant_of-number, version_of-none, version_of-number}
 use Rattle.argon2_c.proofs.settings.Settings.config.Goals as goal

@@ -6,7 +6,7 @@ use Rattle.argon2_commands.proofs.Statuses.{check_fault, passed_on, read_fault, 
 use Rattle.argon2_commands.proofs.Passwords.{hash_of_input, error_of_input, verify_of_input}
 use Rattle.argon2_commands.proofs.answer.Answer.to.Goals as goal
 
--- ---- a fault
+-- ---- the clauses on faults, on answers and on input that stays unread
 
 pub returns-in_err-verdict-in-Verify-clause-fault :
     goal.returns-in_err-verdict-in-Verify-clause-fault

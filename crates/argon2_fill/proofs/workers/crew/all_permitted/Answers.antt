@@ -6,13 +6,13 @@ use Rattle.argon2_fill.specs.Views.Boards.{PermitsAll}
 use Rattle.std.proofs.lemmas.Bool.{and_parts}
 use Rattle.argon2_fill.proofs.workers.crew.all_permitted.Goals as goal
 
--- if a test of a whole stretch is true, each of its numbers is permitted
+-- if `list_all` of p over the n numbers from a on is true, p permits each of these numbers
 permits_all : (p : ℕ → Bool) (a n : ℕ) → list_all p (range_with_len a n) ≡ true → PermitsAll p a n
 permits_all p a zero e k h = absurd (omega arith)
 permits_all p a (suc n) e zero h = ap p (omega arith) ∙ (and_parts (p a) (list_all p (range_with_len (a + 1) n)) e).0
 permits_all p a (suc n) e (suc k) h = ap p (omega arith) ∙ permits_all p (a + 1) n (and_parts (p a) (list_all p (range_with_len (a + 1) n)) e).1 k (omega arith)
 
--- where each number of a stretch is permitted, the test of the whole stretch is true
+-- if p permits each of the n numbers from a on, `list_all` of p over these numbers is true
 list_all-permitted : (p : ℕ → Bool) (a n : ℕ) → PermitsAll p a n → list_all p (range_with_len a n) ≡ true
 list_all-permitted p a zero each = refl
 list_all-permitted p a (suc n) each =

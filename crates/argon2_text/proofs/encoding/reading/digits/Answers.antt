@@ -10,7 +10,7 @@ grows : (n : ℕ) (ds : List ℕ) → n ≤ digits_value_after 10 n ds
 grows n [] = omega arith
 grows n (c ∷ cs) = let it = grows (n * 10 + digit_value c) cs in omega (arith, it)
 
--- if the number is too large with the next digit, it is so with all
+-- if the number with the next digit is at least 2 ^ 32, the number with all digits is at least 2 ^ 32
 overflows : (n : ℕ) (ds : List ℕ) → 0 < length ds → IsInRange 48 57 (get_or ds 0 0) → 2 ^ 32 ≤ n * 10 + (get_or ds 0 0 - 48) → 2 ^ 32 ≤ digits_value_after 10 n ds
 overflows n [] some digit large = absurd (omega (arith, some))
 overflows n (c ∷ cs) some digit large = let it = grows (n * 10 + digit_value c) cs in let v = digit_value_digit c digit in omega (arith, it, v)

@@ -13,7 +13,7 @@ returns-in_default-version_of c = λ h.
     let found = head_at c.args.text.now (pieces_view c.in-Some.pieces) c.in-Some.ensures h in
     c.in_default-version_of.ensures found.0.version found.1.version
 
--- whether the first piece names a variant
+-- if the first piece names no variant, the string has no head
 pub returns-in_default-from_name : goal.returns-in_default-from_name
 returns-in_default-from_name c = λ h.
     let found = head_at c.args.text.now (pieces_view c.in-Some.pieces) c.in-Some.ensures h in

@@ -1,4 +1,4 @@
--- Where no salt or no hash stands behind the head, the string decodes to nothing.
+-- If the salt or the hash behind the head is no item, the string decodes to nothing.
 use Rattle.argon2_text.proofs.Items.{hashless, saltless, spelling_at, no_item}
 use Rattle.argon2_text.proofs.encoding.reading.spelling_of.Goals as goal
 use Rattle.argon2_text.proofs.encoding.reading.spelling_of.Goals.{else-is_item-via-then-is_item+else-is_item-2, else-is_item-via-else-is_item}

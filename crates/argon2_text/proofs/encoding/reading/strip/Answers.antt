@@ -4,15 +4,15 @@ use Rattle.argon2_text.specs.Views.Cutting.{strip}
 use Rattle.argon2_text.proofs.Pieces.{strip_none, strip-again}
 use Rattle.argon2_text.proofs.encoding.reading.strip.Goals as goal
 
--- a string of fewer bytes does not begin with the front
+-- stripping finds nothing in a string that is shorter than the front
 too_short : (front text : List ℕ) → length text < length front → strip front text ≡ None
 too_short front text less = strip_none front text (λ rest e. let it = ap length e ∙ length-append front rest in omega (arith, less, it))
 
--- a string that differs from the front at some place does not begin with the front
+-- stripping finds nothing in a string that differs from the front at some index of the front
 differs : (front text : List ℕ) (at : ℕ) → at < length front → get_or text at 0 ≢ get_or front at 0 → strip front text ≡ None
 differs front text at inside other = strip_none front text (λ rest e. other (rw e (get_or_append_left front rest 0 at inside)))
 
--- a string with just these first bytes is the front and what is behind them
+-- a string whose first bytes are the front is the front and what is behind it
 begins : (front text : List ℕ) → take (length front) text ≡ front → text ≡ front ++ drop (length front) text
 begins front text same = sym (take-append-drop (length front) text) ∙ ap (λ (t : List ℕ). t ++ drop (length front) text) same
 

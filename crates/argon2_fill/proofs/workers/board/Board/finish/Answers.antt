@@ -9,7 +9,7 @@ use Rattle.argon2_fill.specs.Views.Boards.{place_in}
 use Rattle.argon2_fill.proofs.Boards.{not-all-done, all-done, hold-slice}
 use Rattle.argon2_fill.proofs.workers.board.Board.finish.Goals as goal
 
--- nothing is left of the slots
+-- if no slot follows the done slots of xs, the slots are exactly the done slots of xs
 at-end : (xs : List SegmentValue) (rest slots : List Slot) → map slot.Done xs ++ rest ≡ slots → length rest ≡ 0 → map slot.Done xs ≡ slots
 at-end xs [] slots is none = grind (arith, common_steps)
 at-end xs (s ∷ rest) slots is none = absurd (omega arith)
