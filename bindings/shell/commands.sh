@@ -202,18 +202,17 @@ new_salt() {
     [ "${#salt}" = 32 ] || fail 4 'there are no random bytes'
 }
 
-# Passes standard input on, and warns on standard error if it ends with a newline, which `echo` adds. If it is empty, or
-# cannot be read to its end, a word with `!` is printed on descriptor 5, so that nobody keeps a hash of nothing or of a
-# part. No output of the tool contains `!`.
+# Passes standard input on, and warns on standard error if it ends with a newline, which `echo` adds. A line on
+# descriptor 5, before any output of the tool, begins with `!whole` only if all of the input was passed on, so that
+# nobody keeps a hash of nothing or of a part. A shell that is denied a process exits at once, and prints no such line.
 watch_input() {
-    { pass_on 3>&1 | tell_of_end; } 4>&1
+    { pass_on 3>&1 | tell_of_end; } 4>&1 && echo '!whole' >&5
 }
 
-# Passes to descriptors 3 and 4 as much of standard input as the tool reads. `head` ends with status 1 if a read failed;
-# a signal ends `head` and `tee` if the tool stops reading.
+# Passes to descriptors 3 and 4 as much of standard input as the tool reads. A signal ends `head` and `tee` if the tool
+# stops reading: then it has failed, and says so itself.
 pass_on() {
-    { head -c "$most_read" 2>/dev/null || [ $? != 1 ] || { add 'the input cannot be read' && echo '!unread' >&5; }; } \
-        | tee /dev/fd/3 >&4 2>/dev/null
+    { head -c "$most_read" 2>/dev/null || echo '!unread' >&5; } | tee /dev/fd/3 >&4 2>/dev/null || echo '!unread' >&5
 }
 
 tell_of_end() {
@@ -243,12 +242,13 @@ new_text() {
     else
         [ -e /dev/fd/0 ] || fail 4 'there is no input'
         lines=$({ watch_input | "$program" new "$@" "$salt" 5>&-; } 5>&1) || exit
+        case $lines in
+        '!whole'*) ;;
+        '!empty'*) fail 2 'the password is empty' ;;
+        *) fail 4 'the input cannot be read' ;;
+        esac
     fi
-    case $lines in
-    *'!unread'*) exit 4 ;;
-    *'!empty'*) fail 2 'the password is empty' ;;
-    esac
-    printf '%s\n' "${lines#*"$newline"}" || exit 4
+    printf '%s\n' "${lines##*"$newline"}" || exit 4
 }
 
 # `check` of an encoded hash that is the first line of descriptor 3: `check - 3<FILE`.

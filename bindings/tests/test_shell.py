@@ -268,6 +268,16 @@ def test_new_runs_the_program_once_and_prints_no_text_of_the_empty_password(run_
         assert (ended, output) == (status, b"") and b"empty" not in errors, status
 
 
+@pytest.mark.parametrize("changed", [
+    "watch_input() { exit 2; }", "pass_on() { exit 2; }", "tell_of_end() { exit 2; }",
+    'head() { command head "$@"; return 137; }', 'tee() { command tee "$@"; return 137; }'])
+def test_new_prints_no_text_if_a_process_before_the_program_is_denied_or_killed(run_script, changed):
+    """A shell that cannot start a process exits at once."""
+    program = "cat >/dev/null; printf 'tag\\ntext\\n'"
+    status, output, errors = run_script(program, "eval", f"{changed}; main new", stdin=b"x")
+    assert status in (2, 4) and output == b"" and errors.startswith(b"proved-argon2: the ")
+
+
 def test_the_program_gets_the_huge_pages_setting_and_no_open_descriptor(run_script):
     program = """cat >/dev/null
 [ "$1" = new ] && printf 'tag\\n%s\\n' "$GLIBC_TUNABLES" && exit
