@@ -2,8 +2,8 @@
  * Null pointers, call by call: each pointer of the header and of the calls with options is null in turn. The call
  * returns NULL_POINTER before all other errors, and writes nothing; a null pointer with length 0 passes no bytes.
  * test_library.py compares these names with the pointers that the headers declare. Then, without a build for the
- * processor, each call returns OLD_PROCESSOR, and writes nothing. It is linked with --wrap=getrandom, so that a salt is
- * the same each time.
+ * processor, each call returns OLD_PROCESSOR, and writes nothing. Errors of the system and of callbacks have their place
+ * in the order of docs/C.md. It is linked with --wrap=getrandom, so that a salt is the same each time.
  */
 #include "../src/builds.h"
 #include "arguments.h"
@@ -176,6 +176,34 @@ static void check_pointers(const struct row *row)
     }
 }
 
+/* ---- errors of the system and of callbacks */
+
+static int stop(void *arg, uint64_t done, uint64_t all)
+{
+    (void)arg, (void)done, (void)all;
+    return 1;
+}
+
+static int refuse(void *pool, uint32_t tasks, void (*task)(void *arg, uint32_t i), void *arg)
+{
+    (void)pool, (void)tasks, (void)task, (void)arg;
+    return 1;
+}
+
+static void check_order(void)
+{
+    give_what_fits();
+    spoil();
+    check_code(password_hash_with(), PROVED_ARGON2_NO_RANDOM_BYTES, "random bytes come before the options");
+    give_what_fits();
+    options = (proved_argon2_options){.size = sizeof options, .memory = blocks, .run = refuse, .progress = stop};
+    check_code(hash_raw_with(), PROVED_ARGON2_OUT_OF_MEMORY, "memory comes before the pool");
+    options.memory_len = sizeof blocks;
+    check_code(hash_raw_with(), PROVED_ARGON2_WORKER_REFUSED, "the pool comes before progress");
+    options.run = NULL;
+    check_code(hash_raw_with(), PROVED_ARGON2_STOPPED, "progress comes last");
+}
+
 #ifdef __x86_64__ /* (where there are builds to choose from) */
 /* Whether a call returns PROVED_ARGON2_OLD_PROCESSOR or, if it returns a length, 0. */
 static bool refuses_the_processor(const struct row *row)
@@ -195,6 +223,10 @@ static void check_without_a_build(void)
         snprintf(name, sizeof name, "%s on an older processor", rows[i].name);
         check(refuses_the_processor(&rows[i]), name);
     }
+    spoil();
+    check_code(hash_raw_with(), PROVED_ARGON2_WRONG_LENGTH, "the options come before the processor");
+    options.size = sizeof options;
+    check_code(hash_raw_with(), PROVED_ARGON2_OLD_PROCESSOR, "the processor comes before the variant");
     check(proved_argon2_library_version() == 0 && proved_argon2_default_limits().mem_cost == 0
             && proved_argon2_owasp2().version == 0 && proved_argon2_rfc9106().version == 0,
         "calls that return numbers return zeros on an older processor");
@@ -207,10 +239,11 @@ int main(void)
     for (size_t i = 0; i < sizeof rows / sizeof *rows; i++) {
         check_pointers(&rows[i]);
     }
+    check_order();
 #ifdef __x86_64__
     check_without_a_build();
-    return finish(228);
+    return finish(234);
 #else
-    return finish(189);
+    return finish(193);
 #endif
 }
