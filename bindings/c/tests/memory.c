@@ -149,6 +149,22 @@ static void check_populatings(void)
     check_populating(&row, 4);
 }
 
+/* The system denies to split a mapping if the process has as many as it may have. */
+static void check_denied_unmapping(void)
+{
+    size_t others = 0;
+    make(LARGE);
+    with = by(1);
+    refuses_to_unmap = true;
+    const uint32_t code = does_hash_raw_with();
+    refuses_to_unmap = false;
+    for (size_t i = 0; i < last_mapped_len; i++) {
+        others += ((const uint8_t *)last_mapped)[i] != 0;
+    }
+    check(code == PROVED_ARGON2_OK && others == 0, "blocks that the system does not unmap are overwritten");
+    munmap(last_mapped, last_mapped_len);
+}
+
 /* ---- how much memory the system needs for a hash */
 
 /* This process's resident bytes, as the system counts them page by page. */
@@ -295,6 +311,7 @@ int main(int argc, char **argv)
     check_calls(SMALL);
     check_calls(LARGE);
     check_populatings();
+    check_denied_unmapping();
     const bool is_few = argc > 1 && strcmp(argv[1], "few") == 0;
     if (!is_few) {
         check_resident();
@@ -302,5 +319,5 @@ int main(int argc, char **argv)
     check_memory_new(SMALL);
     check_memory_new(LARGE);
     check_without_memory();
-    return finish(is_few ? 59 : 61);
+    return finish(is_few ? 61 : 63);
 }

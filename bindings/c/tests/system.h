@@ -54,6 +54,9 @@ static atomic_size_t populatings, populated, in_huge_pages;
 static size_t refused_populating;
 static int refused_how;
 
+/* Whether the system denies to unmap memory. */
+static bool refuses_to_unmap;
+
 /* How many bytes are held, and were at most. */
 static atomic_size_t held, most_held;
 
@@ -179,6 +182,10 @@ void *__wrap_mmap(void *at, size_t len, int protection, int flags, int file, off
 
 int __wrap_munmap(void *at, size_t len)
 {
+    if (refuses_to_unmap) {
+        nothing();
+        return -1;
+    }
     const int status = __real_munmap(at, len);
     held -= status == 0 ? len : 0;
     return status;
