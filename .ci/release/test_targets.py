@@ -129,8 +129,14 @@ def test_the_launcher_runs_the_programs_for_arm(on_arm, tmp_path):
     assert is_tool(*named(PATH=f'{tmp_path}:{os.environ["PATH"]}'), tmp_path / 'usr/bin/proved-argon2')
 
 
-def test_install_compiles_the_library_as_c_and_its_tool_works(tmp_path):
-    output_of(*named(MACHINE='portable', DESTDIR=tmp_path), './install', '/usr')
+@pytest.mark.parametrize('compiler, emulator', [
+    ('cc', []), ('i686-linux-gnu-gcc', ['qemu-i386-static', '-L', '/usr/i686-linux-gnu'])])
+def test_install_compiles_the_library_as_c_and_its_tool_works(tmp_path, compiler, emulator):
+    if not all(map(shutil.which, [compiler, *emulator[:1]])):
+        pytest.skip(f'there is no {compiler}, or nothing to run its programs')
+    output_of(*named(MACHINE='portable', CC=compiler, DESTDIR=tmp_path), './install', '/usr')
+    tool = tmp_path / 'usr/libexec/proved-argon2/portable/argon2_tool'
+    write_program(tool, 'exec', *emulator, tool.rename(tmp_path / 'tool'), '"$@"')
     assert is_tool(tmp_path / 'usr/bin/proved-argon2')
 
 

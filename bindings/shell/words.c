@@ -146,7 +146,8 @@ static int is_command(int count, char **word)
         const char *const fault = fault_of(command->kinds[i - 1], word[i], read_to[i - 1]);
         if (fault != NULL) return fprintf(stderr, "usage\n'%s' is not %s; see --help\n", word[i], fault), 0;
     }
-    most_read = command->is_limited ? 65537 : (size_t)1 << 32;
+    /* (where addresses have 32 bits, no password has 2^32 bytes) */
+    most_read = command->is_limited ? 65537 : SIZE_MAX > UINT32_MAX ? (size_t)UINT32_MAX + 1 : SIZE_MAX;
     return 1;
 }
 
