@@ -260,6 +260,26 @@ static void check_memory_new(uint32_t mem_cost)
     check(held == 0 && errno == 77, "and is given back");
 }
 
+/* The archive's own memmove, by which all its objects move bytes. */
+void *proved_driver_memmove(void *to, const void *from, size_t len);
+
+/* Bytes are moved as by the system's memmove, for each short length and overlap. */
+static void check_moving(void)
+{
+    enum { PLACES = 33 };
+    uint8_t moved[2 * PLACES], expected[2 * PLACES];
+    bool good = true;
+    for (size_t n = 0; n < PLACES * PLACES * PLACES; n++) {
+        const size_t len = n % PLACES, from = n / PLACES % PLACES, to = n / PLACES / PLACES;
+        fill_bytes(moved, sizeof moved, 1);
+        fill_bytes(expected, sizeof expected, 1);
+        proved_driver_memmove(moved + to, moved + from, len);
+        memmove(expected + to, expected + from, len);
+        good &= memcmp(moved, expected, sizeof moved) == 0;
+    }
+    check(good, "bytes that overlap are moved");
+}
+
 #define REFUSED_TEXT(text) text, strlen(text), NULL, 0, NULL, 0, NULL, 0
 
 /* Calls that allocate nothing, and errors that are returned before anything is allocated, even if that would fail. */
@@ -318,6 +338,7 @@ int main(int argc, char **argv)
     }
     check_memory_new(SMALL);
     check_memory_new(LARGE);
+    check_moving();
     check_without_memory();
-    return finish(is_few ? 61 : 63);
+    return finish(is_few ? 62 : 64);
 }
