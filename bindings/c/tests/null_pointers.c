@@ -2,8 +2,8 @@
  * Null pointers, call by call: each pointer of the header and of the calls with options is null in turn. The call
  * returns NULL_POINTER before all other errors, and writes nothing; a null pointer with length 0 passes no bytes.
  * test_library.py compares these names with the pointers that the headers declare. Then, without a build for the
- * processor, each call returns OLD_PROCESSOR, and writes nothing. Errors of the system and of callbacks have their place
- * in the order of docs/C.md. It is linked with --wrap=getrandom, so that a salt is the same each time.
+ * processor, each call returns OLD_PROCESSOR, and writes nothing. Errors of the system and of callbacks are reported in
+ * the order of docs/C.md. It is linked with --wrap=getrandom, so that a salt is the same each time.
  */
 #include "../src/builds.h"
 #include "arguments.h"
