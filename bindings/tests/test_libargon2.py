@@ -40,7 +40,7 @@ assert len(FAULTS) == 18
 def work(tmp_path_factory):
     """A folder with the tests, and lib, for LD_LIBRARY_PATH."""
     folder = tmp_path_factory.mktemp("libargon2")
-    shutil.copytree(BUILT, folder / "lib")
+    shutil.copytree(BUILT, folder / "lib", ignore=shutil.ignore_patterns("*.so"))  # (release/ has no such links)
     (folder / "lib/libargon2.so").symlink_to("libargon2.so.1")
     link = "-L", folder / "lib", "-largon2"
     wrapped = re.findall(r"__wrap_(\w+)\(.*;", (FACE / "tests/system.h").read_text(encoding="utf-8"))
