@@ -348,22 +348,32 @@ def test_a_child_that_is_forked_while_a_thread_holds_the_lock_can_make_calls(use
 
 @of_threads_that_fork
 def test_a_call_of_the_parent_that_ends_in_the_child_frees_no_place_there(used):
-    """The child has a copy of the parent's futures, and may cancel them."""
-    go = threading.Event()
-    jobs = [used._pool.submit(lambda progress: go.wait(PATIENCE), (), {}) for _ in range(3)]
+    """The child has copies of the parent's calls."""
+    go, jobs = threading.Event(), []
+
+    async def fork():
+        calls = [asyncio.ensure_future(used.run(lambda progress: go.wait(PATIENCE))) for _ in range(3)]
+        await asyncio.sleep(0.1)
+        jobs.extend(used._pool._jobs)
+        status = await asyncio.get_running_loop().run_in_executor(None, status_of_child, run_in_child)
+        go.set()
+        await asyncio.gather(*calls)
+        return status
 
     def run_in_child():
         for job in jobs:
-            job.future.cancel()
-        asyncio.run(hash_and_verify(used))
-        for _ in range(3):
-            used._pool.submit(lambda progress: threading.Event().wait(1), (), {})
-        with pytest.raises(BusyError):
-            asyncio.run(used.hash("password"))
+            used._pool.forget(job)
+        asyncio.run(take_all_places())
 
-    status = status_of_child(run_in_child)
-    go.set()
-    assert status == 0
+    async def take_all_places():
+        await hash_and_verify(used)
+        calls = [asyncio.ensure_future(used.run(lambda progress: go.wait(1))) for _ in range(3)]
+        await asyncio.sleep(0.1)
+        with pytest.raises(BusyError):
+            await used.hash("password")
+        await asyncio.gather(*calls)
+
+    assert asyncio.run(fork()) == 0
 
 
 @of_threads_that_fork
@@ -384,31 +394,81 @@ def test_denied_threads_leave_the_calls_to_the_other_threads():
         "12 calls compute or wait", "12 hashes by 4 threads"]
 
 
-@pytest.mark.filterwarnings("ignore::pytest.PytestUnhandledThreadExceptionWarning")
-def test_a_thread_that_fails_is_replaced(monkeypatch):
-    """A thread fails, for example, if memory runs out while it delivers a result."""
-    delivers, go = _pool.Job.run, threading.Event()
+fails_in_threads = pytest.mark.filterwarnings("ignore::pytest.PytestUnhandledThreadExceptionWarning")
 
-    def fail_once(job):
-        go.wait(PATIENCE)
-        monkeypatch.setattr(_pool.Job, "run", delivers)
-        raise MemoryError
+
+@fails_in_threads
+@pytest.mark.parametrize("place, name, is_made", [
+    (_pool, "current_thread", False), (_pool.Job, "run", False),
+    (asyncio.BaseEventLoop, "call_soon_threadsafe", True)])
+def test_a_thread_that_fails_ends_its_call_and_is_replaced(monkeypatch, place, name, is_made):
+    """Memory runs out before the thread takes its call, while it makes the call, or while it delivers the result."""
+    works, go = getattr(place, name), threading.Event()
+
+    class Failing:
+        """Stands in for what the thread sets or calls, and fails once."""
+
+        def __setattr__(self, *_):
+            self(None)
+
+        def __call__(self, *_):
+            go.wait(PATIENCE)
+            monkeypatch.setattr(place, name, works)
+            raise MemoryError
 
     async def lose_a_thread():
-        hasher = AsyncPasswordHasher(HASHER, concurrency=1, waiting=1)
-        monkeypatch.setattr(_pool.Job, "run", fail_once)
+        hasher, failing = AsyncPasswordHasher(HASHER, concurrency=1, waiting=1), Failing()
+        monkeypatch.setattr(place, name, failing if place is _pool else lambda *arguments: failing(*arguments))
         lost, waiting = (asyncio.ensure_future(hasher.hash("password")) for _ in range(2))
         await asyncio.sleep(0.05)
         go.set()
+        if is_made:
+            assert HASHER.verify(await asyncio.wait_for(lost, PATIENCE / 4), "password")
+        else:
+            with pytest.raises(BusyError, match="^a thread failed"):
+                await asyncio.wait_for(lost, PATIENCE / 4)
         assert HASHER.verify(await asyncio.wait_for(waiting, PATIENCE / 4), "password")
         assert HASHER.verify(await asyncio.wait_for(hasher.hash("password"), PATIENCE / 4), "password")
-        lost.cancel()
-        assert not hasher._pool._jobs
 
     asyncio.run(lose_a_thread())
 
 
-@pytest.mark.filterwarnings("ignore::pytest.PytestUnhandledThreadExceptionWarning")
+@fails_in_threads
+def test_an_idle_thread_that_fails_gets_no_call(monkeypatch):
+    monkeypatch.setattr(_pool, "IDLE_SECONDS", 0.1)
+
+    async def lose_an_idle_thread():
+        hasher = AsyncPasswordHasher(HASHER, concurrency=1)
+        with mock.patch.object(_pool.Pool, "dismisses", side_effect=MemoryError):
+            await hasher.hash("password")
+            await asyncio.sleep(0.5)
+        assert HASHER.verify(await asyncio.wait_for(hasher.hash("password"), PATIENCE / 4), "password")
+
+    asyncio.run(lose_an_idle_thread())
+
+
+def test_a_refused_call_is_not_made_by_a_thread_that_starts_although_its_start_fails():
+    """Memory may run out while `Thread.start` waits for the thread."""
+    starts, made = threading.Thread.start, []
+
+    def start(thread):
+        starts(thread)
+        raise MemoryError
+
+    async def start_badly():
+        hasher = AsyncPasswordHasher(concurrency=1)
+        with mock.patch.object(threading.Thread, "start", start):
+            with pytest.raises(BusyError):
+                await hasher.run(lambda progress: made.append(1))
+        await asyncio.sleep(0.1)
+        assert not made
+        await asyncio.wait_for(hasher.run(lambda progress: made.append(2)), PATIENCE / 4)
+
+    asyncio.run(start_badly())
+    assert made == [2]
+
+
+@fails_in_threads
 @pytest.mark.parametrize("denied", [
     mock.patch.object(threading.Thread, "start", deny),
     mock.patch.object(_pool, "Worker", side_effect=MemoryError)])
@@ -428,7 +488,7 @@ def test_calls_that_wait_are_refused_if_the_only_thread_fails_and_is_not_replace
             with denied:
                 go.set()
                 for call in waiting:
-                    with pytest.raises(BusyError, match="^a thread failed, and no other takes its place: "):
+                    with pytest.raises(BusyError, match="^a thread failed"):
                         await asyncio.wait_for(call, PATIENCE / 4)
         lost.cancel()
         assert not hasher._pool._jobs and not hasher._pool._workers

@@ -6,27 +6,29 @@ its hashes, calls go on if the system denies a thread, and a forked child starts
 import atexit
 import os
 import threading
+import time
 import weakref
 from collections import deque
-from queue import Empty, SimpleQueue
 
 from ._memory import ThreadMemory, current_thread
 from .exceptions import BusyError
 
 TYPE_CHECKING = False
 if TYPE_CHECKING:
-    from concurrent.futures import Future
-    from typing import Any, Callable, Deque, Dict, List, Optional, Set, Tuple
+    from asyncio import Future
+    from typing import Any, Callable, Deque, Dict, Optional, Set, Tuple
 
 # A thread that has had no call for this many seconds frees its buffer and ends.
 IDLE_SECONDS = 10
+# A thread that fails, and lacks the memory to end its call, tries again after this many seconds.
+RETRY_SECONDS = 0.1
 
 
 class Progress:
     """What a call runs after each slice, to learn whether it is stopped.
 
     It has no reference to the job: an exception has the frames of its call, and would keep itself, with the password,
-    by the job's future.
+    by the job.
     """
 
     is_stopped = False
@@ -40,76 +42,108 @@ class Progress:
 
 
 class Job:
-    """A call that a thread of a pool makes. `future` gets its result."""
+    """A call that a thread of a pool makes. `answer`, a future of the running event loop, gets its result."""
 
     def __init__(self, call: "Callable[..., Any]", arguments: "Tuple[Any, ...]", named: "Dict[str, Any]") -> None:
         # Importing this takes longer than importing this whole package.
-        from concurrent.futures import Future
+        import asyncio
 
         self._call, self._arguments, self._named = call, arguments, named
         self._progress = Progress()
-        self.future: "Future[Any]" = Future()
+        self._loop = asyncio.get_running_loop()
+        self.answer: "Future[Any]" = self._loop.create_future()
+        self._result: "Any" = None
+        # The error of a call that no thread makes. It is made now, since memory may be short when a thread fails.
+        self._error: "Optional[BaseException]" = BusyError("a thread failed, and no other makes this call")
 
     def stop(self) -> None:
         """Have the call end after the slice that it computes."""
         self._progress.is_stopped = True
 
     def run(self) -> None:
-        """Make the call in this thread."""
-        if not self.future.set_running_or_notify_cancel():
-            return
+        """Make the call in this thread, unless it is stopped already."""
         try:
+            self._progress(0, 0)
             try:
-                result = self._call(*self._arguments, **self._named, progress=self._progress)
+                self._result = self._call(*self._arguments, **self._named, progress=self._progress)
+                self._error = None
             except StopIteration as error:  # A future of asyncio does not accept it.
                 raise RuntimeError("the call raised StopIteration") from error
-            self.future.set_result(result)
         except BaseException as error:
-            self.future.set_exception(error)
-            del self  # The exception has this frame, and would keep itself by the job's future.
+            self._error = error
+            del self  # The exception has this frame, and would keep itself by the job.
 
-    def refuse(self, words: str) -> None:
-        """Have the call, which waits, end with `BusyError`."""
-        if self.future.set_running_or_notify_cancel():
-            self.future.set_exception(BusyError(words))
+    def deliver(self) -> None:
+        """Have the event loop give the result to `answer`. Doing it again changes nothing."""
+        try:
+            self._loop.call_soon_threadsafe(self._settle)
+        except RuntimeError:  # The event loop is closed: nobody awaits the call.
+            pass
+
+    def _settle(self) -> None:
+        if self.answer.done():  # Its task was cancelled.
+            return
+        if self._error is None:
+            self.answer.set_result(self._result)
+        else:
+            self.answer.set_exception(self._error)
 
 
 class Worker:
-    """A thread of a pool, with the jobs that it is given and the buffer that it keeps."""
+    """A thread of a pool, with the job that it is given and the buffer that it keeps."""
 
-    def __init__(self, pool: "Pool", first: Job) -> None:
-        self.jobs: "SimpleQueue[Optional[Job]]" = SimpleQueue()
-        self.jobs.put(first)
+    def __init__(self, pool: "Pool") -> None:
+        self.job: "Optional[Job]" = None
+        self.is_replaced = False
         self.memory = ThreadMemory()
         self.thread = threading.Thread(target=self._work, name="proved-argon2", daemon=True)
         self._pool = pool
+        # The thread waits for this lock. A queue would have to allocate memory, without which it could lose a job.
+        self._is_given = threading.Lock()
+        self._is_given.acquire()
+
+    def start(self, job: Job) -> None:
+        """Start the thread with a job. If this raises an exception, the thread, if there is one, only ends."""
+        try:
+            self.thread.start()
+            self.job = job
+        finally:
+            self._is_given.release()
+
+    def give(self, job: "Optional[Job]") -> None:
+        """Give the idle thread a job, or have it end if that is `None`."""
+        self.job = job
+        self._is_given.release()
 
     def _work(self) -> None:
-        current_thread.memory = self.memory
         try:
+            self._work_until_let_go()
+        finally:
+            while not self.is_replaced:
+                try:
+                    self._pool.replace(self)
+                except MemoryError:  # Calls would never end.
+                    time.sleep(RETRY_SECONDS)
+
+    def _work_until_let_go(self) -> None:
+        try:
+            current_thread.memory = self.memory
             while self._works_once():
                 pass
-        except BaseException:  # A result could not be delivered, for example since memory ran out.
-            self._pool.replace(self)
-            raise
         finally:
             self.memory.give_back()
 
     def _works_once(self) -> bool:
         """Wait for a job and do it. Return whether the thread should go on."""
-        try:
-            job = self.jobs.get(timeout=IDLE_SECONDS)
-        except Empty:
+        if not self._is_given.acquire(timeout=IDLE_SECONDS):
             return not self._pool.dismisses(self)
-        if job is None:
+        if self.job is None:
             return False
-        try:
-            job.run()
-        finally:
-            self._pool.forget(job.future)
-        del job  # It has the password.
-        self._pool.give_next(self)
-        return True
+        self.job.run()
+        self._pool.forget(self.job)
+        self.job.deliver()
+        self.job = None  # It has the password.
+        return self._pool.lets_go_on(self)
 
 
 class Pool:
@@ -123,10 +157,10 @@ class Pool:
     def _reset(self) -> None:
         self._lock = threading.Lock()
         self._is_closed = False
-        self._jobs: "Dict[Future[Any], Job]" = {}  # those that are computed and those that wait
+        self._jobs: "Set[Job]" = set()  # those that are computed and those that wait
         self._waiting: "Deque[Job]" = deque()
         self._workers: "Set[Worker]" = set()
-        self._idle: "List[Worker]" = []  # The last one worked last: its buffer is most likely in the cache.
+        self._idle: "Deque[Worker]" = deque()  # The last one worked last: its buffer is most likely in the cache.
 
     async def run(
         self, call: "Callable[..., Any]", arguments: "Tuple[Any, ...]", named: "Dict[str, Any]"
@@ -139,12 +173,13 @@ class Pool:
 
         job = self.submit(call, arguments, named)
         try:
-            return await asyncio.wrap_future(job.future)
+            return await job.answer
         except asyncio.CancelledError:
-            job.stop()
+            self._withdraw(job)
             raise
         finally:
-            del job  # An exception has this frame, and would keep itself by the job's future.
+            job.stop()
+            del job  # An exception has this frame, and would keep itself by the job.
 
     def submit(self, call: "Callable[..., Any]", arguments: "Tuple[Any, ...]", named: "Dict[str, Any]") -> Job:
         """Have a thread make a call, now or later. Its place is free again when it has ended or is cancelled.
@@ -155,46 +190,59 @@ class Pool:
         with self._lock:
             if self._is_closed or len(self._jobs) >= self._most_jobs:
                 raise BusyError("Python is ending" if self._is_closed else f"{len(self._jobs)} calls compute or wait")
-            self._hand_over(job)
-            self._jobs[job.future] = job
-        job.future.add_done_callback(self.forget)
+            if not self._is_taken(job):
+                self._waiting.append(job)
+            self._jobs.add(job)
         return job
 
-    def _hand_over(self, job: Job) -> None:
-        """Give a job to an idle thread or to a new one, or have it wait for the threads that there are."""
+    def _is_taken(self, job: Job) -> bool:
+        """Return whether an idle thread or a new one takes a job, or raise `BusyError` if there is no thread at all."""
         if self._idle:
-            self._idle.pop().jobs.put(job)
-        elif len(self._workers) == self._size or not self._starts_worker(job):
-            self._waiting.append(job)
-
-    def _starts_worker(self, job: Job) -> bool:
-        """Return whether a new thread does a job, or raise `BusyError` if there is no thread at all."""
-        worker = Worker(self, job)
-        self._workers.add(worker)
+            self._idle[-1].give(job)
+            self._idle.pop()
+            return True
+        if len(self._workers) == self._size:
+            return False
         try:
-            worker.thread.start()
+            self._start_worker(job)
         except (RuntimeError, MemoryError) as error:
-            self._workers.discard(worker)
-            del worker.thread  # It and the worker would keep each other, with the job.
             if not self._workers:
                 raise BusyError(f"the system denied a thread: {error}") from None
             return False
         return True
 
-    def forget(self, future: "Future[Any]") -> None:
-        """Free the place of a call that has ended or is cancelled."""
-        with self._lock:
-            job = self._jobs.pop(future, None)  # A forked child has no job for the parent's futures.
-            if job is not None and job in self._waiting:
-                self._waiting.remove(job)
+    def _start_worker(self, job: Job) -> None:
+        worker = Worker(self)
+        self._workers.add(worker)
+        try:
+            worker.start(job)
+        except BaseException:
+            self._workers.discard(worker)
+            raise
 
-    def give_next(self, worker: Worker) -> None:
-        """Give a thread that has done its job the next one, if one waits."""
+    def _withdraw(self, job: Job) -> None:
+        """Free the place of a cancelled call if it waits. One that computes keeps its place until it has stopped."""
         with self._lock:
+            if job in self._waiting:
+                self._waiting.remove(job)
+                self._jobs.discard(job)
+
+    def forget(self, job: Job) -> None:
+        """Free the place of a call that has ended."""
+        with self._lock:
+            self._jobs.discard(job)  # A forked child has no job of the parent.
+
+    def lets_go_on(self, worker: Worker) -> bool:
+        """Give a thread that has done its job the next one, if one waits. Return whether the thread should go on."""
+        with self._lock:
+            if self._is_closed:
+                return False
             if self._waiting:
-                worker.jobs.put(self._waiting.popleft())
+                worker.give(self._waiting[0])
+                self._waiting.popleft()
             else:
                 self._idle.append(worker)
+            return True
 
     def dismisses(self, worker: Worker) -> bool:
         """Return whether an idle thread may end: it may not if it was given a job at the last moment."""
@@ -206,30 +254,47 @@ class Pool:
             return is_idle
 
     def replace(self, worker: Worker) -> None:
-        """Have another thread do the jobs of a thread that has failed. If there is none, refuse those that wait."""
+        """Forget a thread that ends, and end its call. Have another thread make a call that waits, or end those too.
+
+        After a `MemoryError`, this can be called again: no call is removed before its result is delivered.
+        """
         with self._lock:
             self._workers.discard(worker)
-        while True:
-            with self._lock:
-                if not self._waiting:
-                    return
-                job = self._waiting.popleft()
-                try:
-                    self._hand_over(job)
-                    return
-                except (BusyError, MemoryError) as error:
-                    words = f"a thread failed, and no other takes its place: {error}"
-            job.refuse(words)  # This calls `forget`, which locks.
+            if worker in self._idle:
+                self._idle.remove(worker)
+        if worker.job is not None:
+            self.forget(worker.job)
+            worker.job.deliver()
+            worker.job = None
+        job = self._first_without_thread()
+        while job is not None:
+            self.forget(job)  # The place is free when the caller goes on.
+            job.deliver()
+            self._withdraw(job)
+            job = self._first_without_thread()
+        worker.is_replaced = True
+
+    def _first_without_thread(self) -> "Optional[Job]":
+        """Have another thread take the first job that waits. Return this job if there is no thread at all."""
+        with self._lock:
+            if self._is_closed or not self._waiting:
+                return None
+            try:
+                if self._is_taken(self._waiting[0]):
+                    self._waiting.popleft()
+            except BusyError:
+                return self._waiting[0]
+            return None
 
     def close(self) -> None:
         """Stop all calls, and wait until no thread computes."""
         with self._lock:
             self._is_closed = True
-            jobs, workers = [*self._jobs.values()], [*self._workers]
+            jobs, workers = [*self._jobs], [*self._workers]
+            while self._idle:
+                self._idle.pop().give(None)
         for job in jobs:
             job.stop()
-        for worker in workers:
-            worker.jobs.put(None)
         for worker in workers:
             worker.thread.join()
 
