@@ -193,6 +193,19 @@ def test_cancelled_calls_free_their_places():
     assert time.monotonic() - begun < PATIENCE
 
 
+def test_a_coroutine_that_is_closed_stops_its_call():
+    """Python closes a coroutine that nothing awaits any more."""
+    async def close():
+        hasher = AsyncPasswordHasher(LONG, concurrency=1)
+        call = hasher.hash("password")
+        call.send(None)
+        call.close()
+        hasher.hasher = HASHER
+        await asyncio.wait_for(hasher.hash("password"), PATIENCE / 4)
+
+    asyncio.run(close())
+
+
 def test_an_ended_or_cancelled_call_keeps_no_argument(without_collector):
     class Argument:
         """Stands in for a password."""
