@@ -52,7 +52,7 @@ func asInVectors(err error) string {
 // TestHashesEqualThoseOfOtherImplementations also compares 800 random hashes of libargon2 if RANDOM_HASHES names a file
 // of them. HashRaw allocates its own memory, and the Hasher verifies in its buffers.
 func TestHashesEqualThoseOfOtherImplementations(t *testing.T) {
-	lines, hasher := linesOf("../vectors/raw.txt"), NewHasher(OWASP2(), 1, 0)
+	lines, hasher := linesOf("../vectors/raw.txt"), must(NewHasher(OWASP2(), 1, 0))
 	if file := os.Getenv("RANDOM_HASHES"); file != "" {
 		lines = append(lines, linesOf(file)...)
 	}
@@ -91,7 +91,7 @@ func TestHashesEqualThoseOfOtherImplementations(t *testing.T) {
 
 // TestEncodedHashesAreVerified uses encoded hashes of other implementations, and invalid strings.
 func TestEncodedHashesAreVerified(t *testing.T) {
-	hasher := NewHasher(OWASP2(), 1, 0).Within(noLimits)
+	hasher := must(NewHasher(OWASP2(), 1, 0)).Within(noLimits)
 	for _, line := range linesOf("../vectors/texts.txt") {
 		encoded, expected, _ := strings.Cut(line, "\t")
 		matches, err := hasher.Verify(ctx, encoded, password)
@@ -118,7 +118,7 @@ func TestHashMakesNewSalts(t *testing.T) {
 	}
 }
 
-// TestEveryErrorIsReported passes invalid settings to hashing calls, and invalid strings to Verify and NeedsRehash.
+// TestEveryErrorIsReported passes invalid settings to NewHasher and to calls that hash, and invalid strings to others.
 func TestEveryErrorIsReported(t *testing.T) {
 	encoded := must(Hash(password, small()))
 	for err, change := range map[Error]func(*Settings){
@@ -132,14 +132,15 @@ func TestEveryErrorIsReported(t *testing.T) {
 		ErrIncorrectVersion: func(s *Settings) { s.Version = 0x11 },
 	} {
 		s := small(change)
-		hasher := NewHasher(s, 1, 0)
+		none, zero := NewHasher(s, 1, 0)
+		hasher := must(NewHasher(small(), 1, 0)).With(s)
 		_, one := Hash(password, s)
 		_, two := HashRaw(password, make([]byte, s.SaltLength), s)
 		_, three := hasher.Hash(ctx, password)
 		_, four := hasher.VerifyUnknown(ctx, password)
 		matches, updated, five := hasher.VerifyAndUpdate(ctx, encoded, password)
-		if one != err || two != err || three != err || four != err {
-			t.Error(one, two, three, four, "not", err)
+		if none != nil || zero != err || one != err || two != err || three != err || four != err {
+			t.Error(none, zero, one, two, three, four, "not", err)
 		}
 		if !matches || updated != "" || five != nil {
 			t.Error(err, matches, updated, five) // the password matches, although there is no new hash
@@ -230,7 +231,7 @@ func TestBytesBesidePointersAreAccepted(t *testing.T) {
 	u := &user{next: &user{}, name: new(string)}
 	s := small()
 	s.Secret, s.Data = u.key[:], u.key[2:9]
-	hasher := NewHasher(s, 1, 0)
+	hasher := must(NewHasher(s, 1, 0))
 	cancellable, cancel := context.WithCancel(ctx)
 	defer cancel()
 	encoded := must(hasher.Hash(cancellable, u.password[:]))
@@ -242,7 +243,7 @@ func TestBytesBesidePointersAreAccepted(t *testing.T) {
 func TestNoSecretIsPrinted(t *testing.T) {
 	s := small()
 	s.Secret = []byte("hidden")
-	hasher := NewHasher(s, 1, 0)
+	hasher := must(NewHasher(s, 1, 0))
 	peppers := must(NewPeppers(hasher, Pepper{"2026", s.Secret}))
 	for _, verb := range []string{"%v", "%+v", "%#v", "%s", "%x", "%d", "%w", "%p"} {
 		shown := fmt.Sprintf(strings.Repeat(verb+" ", 5), hasher, peppers, peppers.peppers, *hasher, *peppers)

@@ -30,7 +30,10 @@ func ExampleIDKey() {
 
 func ExampleHasher() {
 	stored := "$argon2id$v=19$m=7168,t=5,p=1$QCHX93qQXtrJgS3rTVrVbw$CElVoNDzqedjgISYI9h4nVD0rsiS7aV1SXkE32c75gI"
-	hasher := argon2.NewHasher(argon2.OWASP2(), 2, 64) // two at a time, and 64 wait
+	hasher, err := argon2.NewHasher(argon2.OWASP2(), 2, 64) // two at a time, and 64 wait
+	if err != nil {
+		panic(err)
+	}
 	ctx, cancel := context.WithTimeout(context.Background(), time.Minute)
 	defer cancel()
 	matches, updated, err := hasher.VerifyAndUpdate(ctx, stored, []byte("correct horse"))
@@ -47,7 +50,11 @@ func ExamplePeppers() {
 		PepperID: "2025",
 		Encoded:  "$argon2id$v=19$m=7168,t=5,p=1$XFp1Mkqf7MSpiUbZ2Xrhaw$wONd9kNFUla5QhuMuvIaClFh1tuxhQ8kv34GfQuqlEs",
 	}
-	peppers, err := argon2.NewPeppers(argon2.NewHasher(argon2.OWASP5(), 1, 16),
+	hasher, err := argon2.NewHasher(argon2.OWASP5(), 1, 16)
+	if err != nil {
+		panic(err)
+	}
+	peppers, err := argon2.NewPeppers(hasher,
 		argon2.Pepper{ID: "2026", Key: []byte("new key")}, argon2.Pepper{ID: "2025", Key: []byte("old key")})
 	if err != nil {
 		panic(err)

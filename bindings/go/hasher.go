@@ -37,21 +37,27 @@ type Hasher struct {
 	limits   Limits
 }
 
-// NewHasher returns a Hasher. The number concurrency (at least one) limits how many hashes are computed at a time, and
-// waiting limits how many callers wait. Its limits are [LimitsFor] the settings. It does not copy Settings.Secret and
-// Settings.Data: do not change their bytes while the Hasher is used.
-func NewHasher(settings Settings, concurrency, waiting int) *Hasher {
+// NewHasher returns a Hasher, or the [Error] of settings that no hash can have. The number concurrency (at least one)
+// limits how many hashes are computed at a time, and waiting limits how many callers wait. Its limits are [LimitsFor]
+// the settings. It does not copy Settings.Secret and Settings.Data: do not change their bytes while the Hasher is used.
+func NewHasher(settings Settings, concurrency, waiting int) (*Hasher, error) {
+	if err := (run{settings: settings}).check(nil, uint64(settings.SaltLength)); err != nil {
+		return nil, err
+	}
+	return &Hasher{newQueue(concurrency, waiting), &settings, LimitsFor(settings)}, nil
+}
+
+func newQueue(concurrency, waiting int) *queue {
 	concurrency = highest(concurrency, 1)
 	callers := concurrency + highest(waiting, 0)
 	if callers < 0 { // the sum overflowed
 		callers = math.MaxInt
 	}
-	queue := &queue{callers: make(chan struct{}, callers), places: make(chan struct{}, concurrency), idle: idle}
-	return &Hasher{queue, &settings, LimitsFor(settings)}
+	return &queue{callers: make(chan struct{}, callers), places: make(chan struct{}, concurrency), idle: idle}
 }
 
 // With returns a Hasher with other settings, for example with the associated data of a user, and the limits for them.
-// It shares the queue and the buffers.
+// It shares the queue and the buffers. It does not check the settings: each call that needs a hash with them does.
 func (h *Hasher) With(settings Settings) *Hasher {
 	return &Hasher{h.queue, &settings, LimitsFor(settings)}
 }

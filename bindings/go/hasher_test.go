@@ -58,7 +58,7 @@ func isZero(b []byte) bool { return bytes.Count(b, []byte{0}) == len(b) }
 func TestHasherUsesItsSettingsAndLimits(t *testing.T) {
 	s := small()
 	s.Secret, s.Data = []byte("key"), []byte("user")
-	h, today := NewHasher(s, 2, 0), s
+	h, today := must(NewHasher(s, 2, 0)), s
 	encoded := must(h.Hash(ctx, password))
 	today.Time = 2
 	matches, updated, err := h.With(today).VerifyAndUpdate(ctx, encoded, password)
@@ -83,7 +83,7 @@ func TestHasherUsesItsSettingsAndLimits(t *testing.T) {
 }
 
 func TestCallersComputeOrWaitOrLeaveOrAreTurnedAway(t *testing.T) {
-	h, encoded := NewHasher(small(), 2, 1), must(Hash(password, small()))
+	h, encoded := must(NewHasher(small(), 2, 1)), must(Hash(password, small()))
 	cancel, cancelOther := hold(t, h), hold(t, h)
 	for i := 0; i < 3; i++ {
 		short, end := context.WithTimeout(ctx, 10*time.Millisecond)
@@ -114,7 +114,7 @@ func TestCallersComputeOrWaitOrLeaveOrAreTurnedAway(t *testing.T) {
 func TestNobodyIsTurnedAwayWhileNobodyWaits(t *testing.T) {
 	defer runtime.GOMAXPROCS(runtime.GOMAXPROCS(1))
 	for i := 0; i < 50; i++ {
-		h := NewHasher(small(), 1, 1)
+		h := must(NewHasher(small(), 1, 1))
 		buffer := must(h.queue.enter(ctx))
 		waiting := start(ctx, h)
 		waitFor(t, "it waits", func() bool { return len(h.queue.callers) == 2 })
@@ -124,11 +124,11 @@ func TestNobodyIsTurnedAwayWhileNobodyWaits(t *testing.T) {
 			t.Fatal(i, err, err2)
 		}
 	}
-	must(NewHasher(small(), math.MaxInt, math.MaxInt).Hash(ctx, password))
+	must(must(NewHasher(small(), math.MaxInt, math.MaxInt)).Hash(ctx, password))
 }
 
 func TestCancellationStopsAHashAndClearsItsBuffer(t *testing.T) {
-	h := NewHasher(small(), 1, 0)
+	h := must(NewHasher(small(), 1, 0))
 	for i := 0; i < 5; i++ {
 		cancel := hold(t, h)
 		time.Sleep(time.Duration(i) * 5 * time.Millisecond)
@@ -157,7 +157,7 @@ func TestCancellationStopsAHashAndClearsItsBuffer(t *testing.T) {
 }
 
 func TestBuffersAreClearedAndReused(t *testing.T) {
-	h := NewHasher(OWASP2(), 2, 100)
+	h := must(NewHasher(OWASP2(), 2, 100))
 	h.queue.idle = time.Hour // on a slow machine this test takes longer than ten seconds
 	var group sync.WaitGroup
 	for i := 0; i < 20; i++ {
@@ -200,7 +200,7 @@ func TestBuffersAreClearedAndReused(t *testing.T) {
 }
 
 func TestIdleBuffersAreFreed(t *testing.T) {
-	h := NewHasher(small(), 2, 0)
+	h := must(NewHasher(small(), 2, 0))
 	h.queue.idle = time.Second
 	cancel := hold(t, h)
 	for i := 0; i < 2; i++ {

@@ -20,13 +20,13 @@ func kib(name string) (number uint64) {
 
 // TestMemoryDoesNotGrow measures 10,200 calls, and more in buffers that are replaced and freed.
 func TestMemoryDoesNotGrow(t *testing.T) {
-	h, larger := NewHasher(small(), 2, 0), small(func(s *Settings) { s.Memory = 128 })
+	h, larger := must(NewHasher(small(), 2, 0)), small(func(s *Settings) { s.Memory = 128 })
 	calls := func(count int) {
 		for i := 0; i < count; i++ {
 			must(Verify(must(h.Hash(ctx, password)), password))
 			must(HashRaw(password, password, small()))
 			if i%10 == 0 {
-				other := NewHasher(small(), 1, 0)
+				other := must(NewHasher(small(), 1, 0))
 				other.queue.idle = 20 * time.Millisecond // the timer fires after the second hash replaced the buffer
 				must(other.Hash(ctx, password))
 				must(other.With(larger).Hash(ctx, password))
@@ -46,7 +46,7 @@ func TestMemoryDoesNotGrow(t *testing.T) {
 func TestDeniedMemoryIsAnError(t *testing.T) {
 	var limit syscall.Rlimit
 	must(0, syscall.Getrlimit(syscall.RLIMIT_AS, &limit))
-	before, h, encoded := limit, NewHasher(RFC9106LowMem(), 1, 0), must(Hash(password, RFC9106LowMem()))
+	before, h, encoded := limit, must(NewHasher(RFC9106LowMem(), 1, 0)), must(Hash(password, RFC9106LowMem()))
 	if must(h.With(small()).Hash(ctx, password)); len(h.buffers()) != 1 {
 		t.Fatal("there is no buffer")
 	}

@@ -4,7 +4,7 @@ import "testing"
 
 func TestPeppersRenewHashes(t *testing.T) {
 	old, key, none := Pepper{"2025", []byte("old")}, Pepper{"2026", []byte("new")}, Pepper{}
-	hasher := NewHasher(small(), 1, 0)
+	hasher := must(NewHasher(small(), 1, 0))
 	of := func(p Pepper, changes ...func(*Settings)) Stored {
 		s := small(changes...)
 		s.Secret = p.Key
@@ -57,7 +57,7 @@ func TestInvalidPeppersAreRejected(t *testing.T) {
 	for _, list := range [][]Pepper{
 		{}, {{"a", nil}}, {{"", []byte("key")}}, {a, {"b", []byte{}}}, {a, b, {"a", []byte("x")}},
 	} {
-		if found, err := NewPeppers(NewHasher(small(), 1, 0), list...); found != nil || err != ErrInvalidPeppers {
+		if found, err := NewPeppers(must(NewHasher(small(), 1, 0)), list...); found != nil || err != ErrInvalidPeppers {
 			t.Error(list, found, err)
 		}
 	}

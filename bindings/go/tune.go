@@ -27,7 +27,7 @@ type Tuning struct {
 // of most. If even the weakest settings for passwords take longer, or need more memory, it returns [ErrTooSlow]. Hashes
 // take longer on a busy machine.
 func Tune(ctx context.Context, within time.Duration, most Settings) (Tuning, error) {
-	hasher := NewHasher(most, 1, 0)
+	hasher := &Hasher{queue: newQueue(1, 0), settings: &most}
 	return tune(within, most, func(s Settings) (least time.Duration, err error) {
 		for round := 0; round < rounds && err == nil; round++ {
 			begun := time.Now()

@@ -36,7 +36,7 @@ func TestTuneMeasuresHashes(t *testing.T) {
 	cancel()
 	_, slow := Tune(ctx, 0, most)
 	_, stopped := Tune(cancelled, time.Minute, most)
-	most.Memory, most.Lanes, most.Threads = 2*leastMemory, 1000, 1 // half of this memory is too little for the lanes
+	most.Time, most.Memory, most.Lanes, most.Threads = 0, 2*leastMemory, 1000, 1 // half is too little for the lanes
 	_, few := Tune(ctx, 0, most)
 	most.Lanes = 0
 	_, none := Tune(ctx, time.Minute, most)

@@ -29,8 +29,8 @@ var (
 	}
 )
 
-func call(name string, isHasher bool) (value any, err error) {
-	ctx, hasher := context.Background(), argon2.NewHasher(settings, 1, 0)
+func call(hasher *argon2.Hasher, name string, isHasher bool) (value any, err error) {
+	ctx := context.Background()
 	switch {
 	case name == "hash_raw":
 		value, err = argon2.HashRaw(word, []byte("somesalt"), settings)
@@ -78,8 +78,13 @@ func main() {
 		if _, err := fmt.Sscan(lines.Text(), &name, &isHasher, &n[0], &n[1], &n[2], &n[3], &n[4]); err != nil {
 			panic(err)
 		}
+		C.set_answers(0, 0, 0, 0, 0) // the settings are valid
+		hasher, err := argon2.NewHasher(settings, 1, 0)
+		if err != nil {
+			panic(err)
+		}
 		C.set_answers(n[0], n[1], n[2], n[3], n[4])
-		value, err := call(name, isHasher)
+		value, err := call(hasher, name, isHasher)
 		if number, ok := err.(argon2.Error); ok {
 			value = fmt.Sprintf("%v, error %d", value, number)
 		}

@@ -75,7 +75,10 @@ func main() {
     for lanes := uint32(1); lanes <= 4; lanes += 3 {
         s := argon2.OWASP5()
         s.Lanes, s.Secret = lanes, password
-        hasher := argon2.NewHasher(s, 1, 0)
+        hasher, err := argon2.NewHasher(s, 1, 0)
+        if err != nil {
+            panic(err)
+        }
         encoded, err := hasher.Hash(ctx, password)
         if err != nil {
             panic(err)

@@ -68,7 +68,11 @@ func TestService(t *testing.T) {
 	if err != nil {
 		t.Fatal(err)
 	}
-	peppers, err := argon2.NewPeppers(argon2.NewHasher(argon2.OWASP2(), 2, 64),
+	hasher, err := argon2.NewHasher(argon2.OWASP2(), 2, 64)
+	if err != nil {
+		t.Fatal(err)
+	}
+	peppers, err := argon2.NewPeppers(hasher,
 		argon2.Pepper{ID: "2026", Key: []byte("new key")}, argon2.Pepper{ID: "2025", Key: []byte("old key")})
 	if err != nil {
 		t.Fatal(err)
