@@ -28,8 +28,8 @@ struct array {
     uint8_t bytes[LARGEST];
 };
 
-typedef jint make_call(JNIEnv *, jclass, jint, jintArray, jlongArray, jlongArray, jbyteArray, jbyteArray, jbyteArray,
-    jbyteArray, jbyteArray);
+typedef jint make_call(JNIEnv *, jclass, jint, jintArray, jlongArray, jlongArray, jobject, jbyteArray, jbyteArray,
+    jbyteArray, jbyteArray, jbyteArray);
 
 static int asked;
 
@@ -63,15 +63,21 @@ static void set_bytes(JNIEnv *env, jbyteArray array, jsize first, jsize count, c
     if (env != NULL) memcpy(((struct array *)array)->bytes + first, from, (size_t)count);
 }
 
+/* Its only object is a BooleanSupplier, whose class has the same address. */
+static jclass class_of(JNIEnv *env, jobject object)
+{
+    return env != NULL && object == (jobject)&asked ? (jclass)&asked : NULL;
+}
+
 static jmethodID method_of(JNIEnv *env, jclass class, const char *name, const char *type)
 {
-    const bool is_known = strcmp(name, "isStopped") == 0 && strcmp(type, "()Z") == 0;
+    const bool is_known = strcmp(name, "getAsBoolean") == 0 && strcmp(type, "()Z") == 0;
     return env != NULL && class == (jclass)&asked && is_known ? (jmethodID)&asked : NULL;
 }
 
-static jboolean is_stopped(JNIEnv *env, jclass class, jmethodID method, ...)
+static jboolean is_stopped(JNIEnv *env, jobject object, jmethodID method, ...)
 {
-    asked += env != NULL && class == (jclass)&asked && method == (jmethodID)&asked;
+    asked += env != NULL && object == (jobject)&asked && method == (jmethodID)&asked;
     return JNI_FALSE;
 }
 
@@ -86,8 +92,9 @@ static const struct JNINativeInterface_ calls = {
     .GetIntArrayRegion = get_ints,
     .GetLongArrayRegion = get_longs,
     .SetByteArrayRegion = set_bytes,
-    .GetStaticMethodID = method_of,
-    .CallStaticBooleanMethod = is_stopped,
+    .GetObjectClass = class_of,
+    .GetMethodID = method_of,
+    .CallBooleanMethod = is_stopped,
     .ExceptionCheck = has_thrown,
 };
 static JNIEnv of_thread = &calls;
@@ -104,18 +111,19 @@ static bool is_right(make_call *make)
     const jint numbers[] = {2, 19, 256, 2, 1, 32, 8};
     const jlong limits[] = {256, 2, 1, 512};
     struct array of[7];
-    const jclass class = (jclass)&asked;
+    const jclass class = (jclass)&of;
+    const jobject stops = (jobject)&asked;
     const jintArray settings = array_of(&of[0], sizeof(jint), numbers, 7);
     const jlongArray most = array_of(&of[1], sizeof(jlong), limits, 4);
     const jbyteArray password = array_of(&of[2], 1, "password", 8), wrong = array_of(&of[3], 1, "Password", 8);
     const jbyteArray salt = array_of(&of[4], 1, "somesalt", 8);
     const jbyteArray none = array_of(&of[5], 1, "", 0), text = array_of(&of[6], 1, "", 0);
     of[6].length = sizeof ENCODED;
-    const jint code = make(&of_thread, class, HASH, settings, most, NULL, password, salt, none, none, text);
+    const jint code = make(&of_thread, class, HASH, settings, most, NULL, stops, password, salt, none, none, text);
     if (code != OK || strcmp((char *)of[6].bytes, ENCODED) != 0 || asked != 1 + 8) return false;
     of[6].length = sizeof ENCODED - 1;
-    return make(&of_thread, class, VERIFY, settings, most, NULL, password, none, none, none, text) == OK
-        && make(&of_thread, class, VERIFY, settings, most, NULL, wrong, none, none, none, text) == MISMATCH;
+    return make(&of_thread, class, VERIFY, settings, most, NULL, stops, password, none, none, none, text) == OK
+        && make(&of_thread, class, VERIFY, settings, most, NULL, stops, wrong, none, none, none, text) == MISMATCH;
 }
 
 int main(int argc, char **argv)

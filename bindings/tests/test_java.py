@@ -251,10 +251,25 @@ def test_the_native_calls_hash_and_verify_where_no_java_runs(tmp_path, compiler,
     assert said.split() == ["right"]
 
 
-def test_the_library_can_be_named_and_a_missing_one_is_an_error(jar, tmp_path):
-    program = tmp_path / "Program.java"
+def write_program(folder):
+    """A program that prints `false`."""
+    program = folder / "Program.java"
     program.write_text("class Program { public static void main(String[] none) {\n"
                        "System.out.println(new proved.argon2.PasswordHasher().verifyUnknown(new byte[0])); } }")
+    return program
+
+
+def test_the_library_calls_no_method_that_a_shrinker_renames(jar, tmp_path):
+    """ProGuard and R8 keep the names of native methods, if told to, and of Java's own methods."""
+    with zipfile.ZipFile(jar) as packed, zipfile.ZipFile(tmp_path / "shrunk.jar", "w") as shrunk:
+        for name in packed.namelist():
+            is_class, content = name.endswith(".class"), packed.read(name)
+            shrunk.writestr(name, content.replace(b"isStopped", b"isRenamed") if is_class else content)
+    assert run("java", "-cp", tmp_path / "shrunk.jar", write_program(tmp_path)) == "false\n"
+
+
+def test_the_library_can_be_named_and_a_missing_one_is_an_error(jar, tmp_path):
+    program = write_program(tmp_path)
     with zipfile.ZipFile(jar) as packed:
         packed.extract(f"proved/argon2/native/linux-{MACHINE}.so", tmp_path)
     named, = tmp_path.rglob("*.so")

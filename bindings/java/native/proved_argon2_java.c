@@ -23,11 +23,11 @@ typedef struct bytes {
 } bytes;
 #define BYTES(name) of[name].at, of[name].len
 
-/* What must_stop needs to ask Java. */
+/* What must_stop needs to ask Java: a BooleanSupplier, since shrinkers rename no method of Java's own interfaces. */
 typedef struct caller {
     JNIEnv *env;
-    jclass native;
-    jmethodID is_stopped;
+    jobject is_stopped;
+    jmethodID get;
 } caller;
 
 /* Copies arrays, and returns whether there is memory. */
@@ -73,7 +73,7 @@ static proved_argon2_limits limits_of(JNIEnv *env, jlongArray numbers)
 static int must_stop(void *arg, __attribute__((unused)) uint64_t done, __attribute__((unused)) uint64_t all)
 {
     const caller *const self = arg;
-    const jboolean is_stopped = (*self->env)->CallStaticBooleanMethod(self->env, self->native, self->is_stopped);
+    const jboolean is_stopped = (*self->env)->CallBooleanMethod(self->env, self->is_stopped, self->get);
     return (*self->env)->ExceptionCheck(self->env) || is_stopped;
 }
 
@@ -130,12 +130,13 @@ CALL(jlong, encodedLength, jintArray settings)
     return (jlong)proved_argon2_encoded_len(&of.settings, of.salt_length);
 }
 
-CALL(jint, make, jint call, jintArray settings, jlongArray limits, jlongArray kept, jbyteArray password,
-    jbyteArray salt, jbyteArray pepper, jbyteArray data, jbyteArray text)
+CALL(jint, make, jint call, jintArray settings, jlongArray limits, jlongArray kept, jobject is_stopped,
+    jbyteArray password, jbyteArray salt, jbyteArray pepper, jbyteArray data, jbyteArray text)
 {
     const proved_argon2_stored new_settings = settings_of(env, settings);
     const proved_argon2_limits within = limits_of(env, limits);
-    caller self = {env, class, (*env)->GetStaticMethodID(env, class, "isStopped", "()Z")};
+    const jclass supplier = (*env)->GetObjectClass(env, is_stopped);
+    caller self = {env, is_stopped, (*env)->GetMethodID(env, supplier, "getAsBoolean", "()Z")};
     proved_argon2_options options = {.size = sizeof options,
         .threads = UINT32_MAX,
         .limits = &within,
@@ -145,7 +146,7 @@ CALL(jint, make, jint call, jintArray settings, jlongArray limits, jlongArray ke
     proved_argon2_stored stored = new_settings;
     bytes of[ARRAYS] = {{NULL, 0}};
     uint32_t code = PROVED_ARGON2_OUT_OF_MEMORY;
-    if (self.is_stopped == NULL || (call != NEEDS_REHASH && must_stop(&self, 0, 0))) return PROVED_ARGON2_STOPPED;
+    if (self.get == NULL || (call != NEEDS_REHASH && must_stop(&self, 0, 0))) return PROVED_ARGON2_STOPPED;
     if (copy(env, (jbyteArray[]){password, salt, pepper, data, text}, of)) {
         const bool reads = call == VERIFY || call == NEEDS_REHASH;
         code = reads ? proved_argon2_read((char *)of[TEXT].at, of[TEXT].len, &stored) : PROVED_ARGON2_OK;

@@ -5,6 +5,7 @@ import java.io.InputStream;
 import java.nio.file.Files;
 import java.nio.file.Path;
 import java.util.Locale;
+import java.util.function.BooleanSupplier;
 
 /** The calls of the C library. A call that can fail returns the number of its error or 0. */
 final class Native {
@@ -42,10 +43,10 @@ final class Native {
      * Makes a call. {@code HASH} writes the encoded hash, and a zero, to {@code text}, which other calls read. {@code
      * VERIFY} returns {@link #NEEDS_REHASH} for a match with other settings or another length of the salt. {@code kept}
      * is the address and the length of a reusable buffer, or null. If it is too small for the settings, a larger one
-     * takes its place.
+     * takes its place. {@code isStopped} is called before each hash and after each slice.
      */
-    static native int make(int call, int[] settings, long[] limits, long[] kept, byte[] password, byte[] salt,
-        byte[] pepper, byte[] data, byte[] text);
+    static native int make(int call, int[] settings, long[] limits, long[] kept, BooleanSupplier isStopped,
+        byte[] password, byte[] salt, byte[] pepper, byte[] data, byte[] text);
 
     /** Frees a reusable buffer. */
     static native void free(long[] kept);
@@ -53,8 +54,8 @@ final class Native {
     /** The message of an error. */
     static native String message(int number);
 
-    /** Whether nobody waits for this thread's call any more. The library asks before each hash and after each slice. */
-    private static boolean isStopped() {
+    /** Whether nobody waits for this thread's call any more. */
+    static boolean isStopped() {
         Thread thread = Thread.currentThread();
         return thread instanceof HashQueue.Worker worker ? worker.isStopped() : thread.isInterrupted();
     }

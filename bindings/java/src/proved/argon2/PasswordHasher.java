@@ -193,7 +193,7 @@ public class PasswordHasher {
     private int call(Native.Call call, byte[] password, byte[] salt, byte[] text, Integer... verdicts) {
         long[] kept = Thread.currentThread() instanceof HashQueue.Worker worker ? worker.kept : null;
         int number = Native.make(call.ordinal(), settings.numbers(), limits.numbers(), kept,
-            Objects.requireNonNull(password), salt, pepper, associatedData, text);
+            Native::isStopped, Objects.requireNonNull(password), salt, pepper, associatedData, text);
         Argon2Exception.require(number == Native.OK || List.of(verdicts).contains(number), number);
         return number;
     }
