@@ -200,7 +200,7 @@ def headers():
 def test_denied_memory_and_threads(jar, classes, drawn, tmp_path):
     (tmp_path / "denying.c").write_text(DENYING)
     run(CC, "-shared", "-fPIC", "-Wall", "-Wextra", "-Werror", tmp_path / "denying.c", "-o", tmp_path / "denying.so")
-    passes(4, "java", *words_of(jar, classes, drawn, "--include-tag", "denied"),
+    passes(6, "java", *words_of(jar, classes, drawn, "--include-tag", "denied"),
            env={"LD_PRELOAD": tmp_path / "denying.so", "DENIED": tmp_path})
 
 

@@ -32,7 +32,7 @@ public final class HashQueue implements AutoCloseable {
     /** The most threads that the pool can count. */
     private static final int MOST_THREADS = (1 << 29) - 1;
 
-    private final ThreadPoolExecutor threads;
+    final ThreadPoolExecutor threads;
     /** The calls that compute or wait, at most as many as there are places. */
     private final Set<Task<?>> tasks = ConcurrentHashMap.newKeySet();
     private final long places;
@@ -117,9 +117,14 @@ public final class HashQueue implements AutoCloseable {
 
     /** Accepts one call at a time: the pool's size may count another caller's thread that the system then denies. */
     private boolean isAccepted(Task<?> task) {
+        boolean isAccepted;
         synchronized (tasks) {
-            return hasPlace(task) && isQueued(task);
+            isAccepted = hasPlace(task) && isQueued(task);
         }
+        if (task.isCancelled()) { // the last thread may have ended because the pool counted the one that was denied
+            rejectWithoutThread();
+        }
+        return isAccepted;
     }
 
     /**
@@ -139,8 +144,7 @@ public final class HashQueue implements AutoCloseable {
         try {
             threads.execute(task);
             isQueued = true;
-        } catch (RejectedExecutionException closed) {
-            // the queue was closed meanwhile
+        } catch (RejectedExecutionException error) { // the queue was closed meanwhile
         } catch (OutOfMemoryError denied) {
             threads.getQueue().add(task);
             isQueued = threads.getPoolSize() > 0 || !threads.remove(task);

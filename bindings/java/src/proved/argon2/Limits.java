@@ -18,8 +18,7 @@ public record Limits(int memory, int passes, int lanes, long work) {
 
     /** {@return the default limits, each raised to that of these settings if that is more} */
     public static Limits atLeast(Settings settings) {
-        return new Limits(
-            Math.max(DEFAULT.memory, settings.memory()), Math.max(DEFAULT.passes, settings.passes()),
+        return new Limits(Math.max(DEFAULT.memory, settings.memory()), Math.max(DEFAULT.passes, settings.passes()),
             Math.max(DEFAULT.lanes, settings.lanes()),
             Math.max(DEFAULT.work, (long) settings.memory() * settings.passes()));
     }

@@ -6,12 +6,15 @@ import static proved.argon2.PasswordHasherTest.*;
 
 import java.io.IOException;
 import java.nio.file.*;
-import java.util.Collections;
+import java.util.*;
 import java.util.concurrent.*;
 import org.junit.jupiter.api.*;
+import org.junit.jupiter.params.ParameterizedTest;
+import org.junit.jupiter.params.provider.ValueSource;
 
 /** While a file {@code memory} or {@code threads} exists, that is denied; a file {@code once} denies memory once. */
 @Tag("denied")
+@Timeout(60)
 class DeniedTest {
     private static final Path FOLDER = Path.of(System.getenv().getOrDefault("DENIED", "."));
     private final PasswordHasher hasher = new PasswordHasher(SMALL.withMemory(32 * 1024).withLanes(4));
@@ -23,7 +26,8 @@ class DeniedTest {
     }
 
     @AfterEach
-    void close() {
+    void close() throws IOException {
+        Files.deleteIfExists(FOLDER.resolve("threads"));
         queue.close();
     }
 
@@ -68,7 +72,27 @@ class DeniedTest {
         assertFalse(second.isDone());
         first.cancel(true);
         assertTrue(second.join());
-        Files.delete(denied);
+    }
+
+    /** The last thread rejects it or, if that counted on a thread that a caller was then denied, this caller does. */
+    @ParameterizedTest
+    @ValueSource(booleans = {false, true})
+    void withoutThreadsACallIsRejectedOnceTheLastThreadDies(boolean isByCaller) throws Exception {
+        List<CompletableFuture<Void>> ends = List.of(new CompletableFuture<>(), new CompletableFuture<>());
+        ends.forEach(end -> queue.threads.execute(end::join));
+        Future<Integer> number = queue.submit(() -> "").handle((none, error) -> ((Argon2Exception) error).number());
+        deny("threads");
+        ends.get(0).completeExceptionally(new IOException());
+        HashQueueTest.await(() -> HashQueueTest.threads() == 1);
+        assertFalse(number.isDone());
+        ThreadFactory usual = queue.threads.getThreadFactory();
+        queue.threads.setThreadFactory(isByCaller ? calls -> null : usual); // (null is no error for the pool)
+        ends.get(1).completeExceptionally(new IOException());
+        HashQueueTest.await(() -> HashQueueTest.threads() == 0);
+        queue.threads.setThreadFactory(usual);
+        assertNotEquals(isByCaller, number.isDone());
+        assertFails(BUSY, () -> queue.submit(() -> ""));
+        assertEquals(BUSY, number.get(10, TimeUnit.SECONDS));
     }
 
     /** No call may be accepted because of another caller's thread, which is denied as well. */

@@ -21,7 +21,7 @@ class HashQueueTest {
     private final HashQueue queue = new HashQueue(1, 1, Duration.ofMillis(500));
     private final CompletableFuture<Void> isWatched = new CompletableFuture<>();
 
-    private static void await(BooleanSupplier condition) throws InterruptedException {
+    static void await(BooleanSupplier condition) throws InterruptedException {
         while (!condition.getAsBoolean()) {
             TimeUnit.MILLISECONDS.sleep(2);
         }
@@ -48,7 +48,7 @@ class HashQueueTest {
         return ((HashQueue.Worker) Thread.currentThread()).kept.clone();
     }
 
-    private static long threads() {
+    static long threads() {
         return Thread.getAllStackTraces().keySet().stream().filter(HashQueue.Worker.class::isInstance).count();
     }
 

@@ -4,6 +4,7 @@ import static org.junit.jupiter.api.Assertions.*;
 import static proved.argon2.Argon2Exception.*;
 import static proved.argon2.HashesTest.bytes;
 
+import java.lang.reflect.Proxy;
 import java.util.*;
 import java.util.concurrent.TimeUnit;
 import org.junit.jupiter.api.*;
@@ -51,22 +52,8 @@ class PasswordHasherTest {
 
     @Test
     void aPasswordThatFitsIntoNoArrayIsRejected() {
-        CharSequence longest = new CharSequence() {
-            @Override
-            public int length() {
-                return Integer.MAX_VALUE;
-            }
-
-            @Override
-            public char charAt(int index) {
-                return 'a';
-            }
-
-            @Override
-            public CharSequence subSequence(int start, int end) {
-                return this;
-            }
-        };
+        CharSequence longest = (CharSequence) Proxy.newProxyInstance(getClass().getClassLoader(),
+            new Class<?>[] {CharSequence.class}, (proxy, method, arguments) -> Integer.MAX_VALUE); // its length
         assertFails(OUT_OF_MEMORY, () -> hasher.encode(longest));
     }
 
