@@ -67,9 +67,14 @@ void *proved_driver_map_pages(size_t bytes)
     return all + before;
 }
 
+/* The system may have joined the pages with mappings beside them. To unmap them, it then splits that mapping, which it
+ * denies if the process has as many mappings as it may have. The pages then stay, but give back what they hold. */
 void proved_driver_unmap_pages(void *pages, size_t bytes)
 {
-    munmap(pages, bytes);
+    if (munmap(pages, bytes) != 0) {
+        proved_driver_overwrite(pages, bytes);
+        madvise(pages, bytes, MADV_DONTNEED);
+    }
 }
 
 bool proved_driver_populate_pages(void *pages, size_t bytes)

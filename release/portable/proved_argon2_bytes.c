@@ -14,7 +14,7 @@ typedef uint64_t __attribute__((vector_size(16), may_alias, aligned(1))) sixteen
 #define AS_WRITTEN() __asm__ volatile("" ::: "memory")
 
 #pragma GCC visibility push(hidden)
-void *proved_driver_memcpy(void *restrict to, const void *restrict from, size_t len);
+void *proved_driver_memcpy(void *to, const void *from, size_t len);
 void *proved_driver_memmove(void *to, const void *from, size_t len);
 void *proved_driver_memset(void *to, int byte, size_t len);
 #pragma GCC visibility pop
@@ -34,7 +34,8 @@ static inline void copy_few(unsigned char *to, const unsigned char *from, size_t
     }
 }
 
-void *proved_driver_memcpy(void *restrict to, const void *restrict from, size_t len)
+/* (without `restrict`, which memcpy has in C: memmove below passes bytes that overlap) */
+void *proved_driver_memcpy(void *to, const void *from, size_t len)
 {
     unsigned char *own = to;
     const unsigned char *other = from;
