@@ -158,15 +158,19 @@ is_of_sources() {
 }
 
 # Whether a file of release/, or a folder's content, is as the manifest names it: `is_listed PART`. `uniq -u` drops what
-# the list and the files' sums share.
+# the list and the files' sums share. A NUL ends each entry, since names may contain blanks and line ends. The first
+# entry, `-  -`, stays alone if all is well, and is missing if a command could not run.
 is_listed() {
     why="release/MANIFEST names no file of $1"
     listed=$(grep -E "^[^#].*  $1(/|\$)" "$root/release/MANIFEST") || return
-    other=$(cd "$root/release" && { echo "$listed" | sort -u && find "$1" \( -type f -exec sha256sum -- {} + \) \
-        -o ! -type d -printf '-  %p\n' 2>/dev/null; } | LC_ALL=C sort -k 2 | uniq -u | sed -n '1s/^.*  //p')
+    other=$(cd "$root/release" && { printf '%s\n' '-  -' "$listed" | sort -u | tr '\n' '\0' && find "$1" \( -type f \
+        -exec sha256sum -z -- {} + \) -o ! -type d -printf '-  %p\0' 2>/dev/null; } | LC_ALL=C sort -z -k 2 \
+        | LC_ALL=C uniq -zu | tr '\n\0' '?\n')
+    [ "$other" != '-  -' ] || return 0
+    other=$(printf '%s\n' "$other" | sed -n '2s/^[^ ]*  //p')
     case $listed in
     *"  $other"*) why="release/$other is not the file that release/MANIFEST names: it was changed, or is not there" ;;
     *) why="release/MANIFEST does not name $other" ;;
     esac
-    [ ! "$other" ]
+    return 1
 }

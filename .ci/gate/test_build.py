@@ -1,6 +1,7 @@
 """build/current.sh tells whether files are built from the present sources, and the text of a tracked file becomes no
 command, option or path in scripts that read it."""
 
+import hashlib
 import re
 import shutil
 
@@ -58,6 +59,40 @@ def test_a_manifest_folder_named_like_an_option_of_find_is_rejected(tmp_path):
     came = run(tmp_path / 'build/check_release')
     assert came.returncode == 2 and '-delete, which is no plain name' in came.stdout
     assert (tmp_path / 'release/MANIFEST').exists()
+
+
+SUMS = [hashlib.sha256(content).hexdigest() for content in (b'built', b'forged')]
+
+
+@pytest.mark.parametrize('links', [['one/!  '], ['one/!\nx'], [f'one/!\n{own}  one/made' for own in SUMS]])
+def test_no_name_of_a_link_hides_a_changed_file(tmp_path, links):
+    """Blanks and line ends in names could pass for those of the list."""
+    (tmp_path / 'release/one').mkdir(parents=True)
+    (tmp_path / 'release/one/made').write_text('forged', encoding='utf-8')
+    (tmp_path / 'release/MANIFEST').write_text(f'{SUMS[0]}  one/made\n', encoding='utf-8')
+    for link in links:
+        (tmp_path / 'release' / link).parent.mkdir(exist_ok=True)
+        (tmp_path / 'release' / link).symlink_to('made')
+    script = f'root={tmp_path}; . build/current.sh; is_listed one || {{ echo "$why"; exit 1; }}'
+    came = run('sh', '-c', script)
+    assert came.returncode == 1 and 'release/MANIFEST' in came.stdout
+    assert run('sh', '-c', f'uniq() {{ false; }}; {script}').returncode == 1
+
+
+def test_an_empty_release_is_rejected(tmp_path):
+    shutil.copytree(TOP / 'build', tmp_path / 'build')
+    copy_with(tmp_path, 'release/MANIFEST', lambda text: '')
+    came = run(tmp_path / 'build/check_release')
+    assert came.returncode == 2 and came.stdout == 'release/ has no files\n'
+
+
+@pytest.mark.parametrize('name', [' ', '\n', '[b]uild'])
+def test_an_odd_name_beside_the_parts_of_a_release_is_rejected(tmp_path, name):
+    shutil.copytree(TOP / 'build', tmp_path / 'build')
+    (tmp_path / 'release' / name).mkdir(parents=True)
+    copy_with(tmp_path, 'release/MANIFEST')
+    came = run(tmp_path / 'build/check_release')
+    assert came.returncode == 2 and ', which is no plain name' in came.stdout
 
 
 def test_a_link_on_a_page_runs_no_command_of_sed(tmp_path):
