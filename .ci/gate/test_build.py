@@ -79,6 +79,19 @@ def test_no_name_of_a_link_hides_a_changed_file(tmp_path, links):
     assert run('sh', '-c', f'uniq() {{ false; }}; {script}').returncode == 1
 
 
+@pytest.mark.parametrize('script', ['build/clean', '.ci/release/tag'])
+def test_cdpath_leads_a_script_to_no_other_folder(tmp_path, script):
+    """There it would run that folder's build/current.sh, and delete or tag what is there."""
+    for name in (script, 'build/current.sh'):
+        (tmp_path / 'tree' / name).parent.mkdir(parents=True, exist_ok=True)
+        shutil.copy(TOP / name, tmp_path / 'tree' / name)
+    for folder in ('build', '.ci/release', 'out'):
+        (tmp_path / 'other' / folder).mkdir(parents=True)
+    (tmp_path / 'other/build/current.sh').write_text('touch ran; names_packages() { :; }\n', encoding='utf-8')
+    assert run('env', f'CDPATH={tmp_path}/other', script, cwd=tmp_path / 'tree').returncode == 1
+    assert {file.name for file in (tmp_path / 'other').iterdir()} == {'build', '.ci', 'out'}
+
+
 def test_an_empty_release_is_rejected(tmp_path):
     shutil.copytree(TOP / 'build', tmp_path / 'build')
     copy_with(tmp_path, 'release/MANIFEST', lambda text: '')

@@ -112,6 +112,13 @@ def test_only_a_changed_source_kit_or_program_causes_a_build(tree, change, count
     tree.builds(0)
 
 
+def test_cdpath_leads_to_no_build(tree):
+    """With it, `cd` prints the folder that it finds there."""
+    own = {**tree.environment, "CDPATH": tree.folder.parent}
+    assert run(f"{tree.folder.name}/argon2", "hash", env=own, cwd=tree.folder.parent) == "the program: hash\n"
+    assert not tree.runs.exists()
+
+
 def test_a_source_that_changes_during_the_build_is_built_next(tree):
     (tree.folder / "runs.change").touch()
     tree.change("crates/argon2_tool/src/file")
