@@ -193,7 +193,7 @@ def test_cancelled_calls_free_their_places():
     assert time.monotonic() - begun < PATIENCE
 
 
-def test_a_coroutine_that_is_closed_stops_its_call():
+def test_a_coroutine_that_is_closed_stops_its_call_and_logs_nothing(caplog):
     """Python closes a coroutine that nothing awaits any more."""
     async def close():
         hasher = AsyncPasswordHasher(LONG, concurrency=1)
@@ -204,6 +204,7 @@ def test_a_coroutine_that_is_closed_stops_its_call():
         await asyncio.wait_for(hasher.hash("password"), PATIENCE / 4)
 
     asyncio.run(close())
+    assert not caplog.records
 
 
 def test_an_ended_or_cancelled_call_keeps_no_argument(without_collector):

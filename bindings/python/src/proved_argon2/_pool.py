@@ -87,6 +87,7 @@ class Job:
             self.answer.set_result(self._result)
         else:
             self.answer.set_exception(self._error)
+            self.answer.exception()  # asyncio would log an exception that nobody reads: the coroutine may be closed.
 
 
 class Worker:
