@@ -91,13 +91,41 @@ def test_what_is_installed_has_its_modes_under_each_umask(folder, mask):
     assert not (folder / "mask").exists()
 
 
-def test_a_link_in_the_place_of_a_new_file_is_not_followed(folder):
-    victim, file = folder / "victim", folder / "link/lib/libproved_argon2.a"
-    victim.write_text("mine")
-    file.parent.mkdir(parents=True)
-    file.with_name(f"{file.name}.new").symlink_to(victim)
+@pytest.mark.parametrize("name", ["lib/libproved_argon2.a", "share/proved-argon2/installed"])
+@pytest.mark.parametrize("victim", ["victim/mine", "victim"])
+def test_a_link_to_a_file_or_folder_in_the_place_of_a_file_is_not_followed(folder, name, victim):
+    (folder / "victim").mkdir()
+    (folder / "victim/mine").write_text("mine")
+    for file in (folder / "link" / name, folder / f"link/{name}.new"):
+        file.parent.mkdir(parents=True, exist_ok=True)
+        file.symlink_to(folder / victim)
     run("./install", folder / "link")
-    assert victim.read_text() == "mine" and file.is_file() and not file.is_symlink()
+    assert files_in(folder / "victim") == {"mine"} and (folder / "victim/mine").read_text() == "mine"
+    assert files_in(folder / "link") == EXPECTED and not (folder / "link" / name).is_symlink()
+
+
+# It makes a folder, and another whose name another user could guess.
+MKTEMP = """#!/bin/sh
+made=$(/usr/bin/mktemp "$@") && mkdir "$made.linked" && echo mine >"$made.linked/mine" && echo "$made"
+"""
+
+
+def test_it_deletes_no_folder_that_another_user_could_make_beside_its_own(folder):
+    (folder / "mktemp").write_text(MKTEMP)
+    (folder / "mktemp").chmod(0o755)
+    run("./install", folder / "prefix", env={"PATH": f"{folder}:{os.environ['PATH']}", "TMPDIR": folder})
+    assert len([*folder.glob("*.linked/mine")]) == 1
+
+
+@pytest.mark.skipif(os.geteuid() != 0, reason="that takes root")
+@pytest.mark.parametrize("words", [[], ["--remove"]])
+def test_root_deletes_nothing_that_another_users_list_names(prefix, folder, words):
+    (folder / "victim").touch()
+    listed = prefix / "share/proved-argon2/installed"
+    listed.write_text(f"file {folder}/victim\n")
+    os.chown(listed, 65534, 65534)
+    refuses(1, "belongs to another user", "./install", *words, prefix)
+    assert (folder / "victim").exists() and files_in(prefix) == EXPECTED
 
 
 @pytest.mark.parametrize("said", ["echo glibc 2.31", "echo glibc 2.5", "echo glibc 2.33", "echo undefined; exit 1",
@@ -122,13 +150,33 @@ def test_installed_files_need_no_newer_c_library_than_stated(installed):
     assert max(found, key=lambda version: [*map(int, version.split("."))]) == OLDEST
 
 
-def test_it_can_be_removed_after_a_fault_in_the_middle(folder):
-    """A file is where a folder has to be."""
-    (folder / "fault/lib").mkdir(parents=True)
-    (folder / "fault/lib/pkgconfig").touch()
-    refuses(1, "not all was put", "./install", folder / "fault")
-    run("./install", "--remove", folder / "fault")
-    assert files_in(folder / "fault") == {"lib/pkgconfig"}
+@pytest.mark.parametrize("name", ["lib/pkgconfig", "lib/libproved_argon2.a/file"])
+@pytest.mark.parametrize("is_mended", [True, False])
+def test_it_can_be_repeated_or_removed_after_a_fault_in_the_middle_of_an_upgrade(folder, name, is_mended):
+    """A file is where a folder has to be, or a folder where a file has to be."""
+    prefix = folder / "fault"
+    fault, older, listed = (prefix / file for file in (name, "lib/older", "share/proved-argon2/installed"))
+    for file in (fault, older, listed):
+        file.parent.mkdir(parents=True, exist_ok=True)
+        file.touch()
+    listed.write_text(f"file {older}\n")
+    refuses(1, "not all was put", "./install", prefix)
+    if is_mended:
+        fault.unlink()
+        start("rmdir", fault.parent)
+    run("./install", *([] if is_mended else ["--remove"]), prefix)
+    assert files_in(prefix) == (EXPECTED if is_mended else {name})
+
+
+@pytest.mark.parametrize("command", [["./install", "--remove", "{}"], ["{}/share/proved-argon2/uninstall"]])
+def test_a_removal_that_fails_can_be_repeated(prefix, folder, command):
+    """A stand-in for rm fails at one of the last files."""
+    command = [word.format(prefix) for word in command]
+    (folder / "rm").write_text('#!/bin/sh\ncase $* in */uninstall) exit 1 ;; esac\nexec /bin/rm "$@"\n')
+    (folder / "rm").chmod(0o755)
+    refuses(1, "", *command, env={"PATH": f"{folder}:{os.environ['PATH']}"})
+    run(*command)
+    assert not prefix.exists()
 
 
 @pytest.mark.skipif(os.geteuid() == 0 and start(*NOBODY, "test", "-r", "install").returncode != 0,
@@ -141,7 +189,7 @@ def test_a_user_without_rights_is_refused(folder):
 
 
 @pytest.mark.parametrize("status, why, words", [
-    (1, "a quote", ['/nowhere/"quoted"']), (2, "PREFIX", ["--prefix", "/nowhere"]), (2, "PREFIX", ["/nowhere", "/tmp"]),
+    (1, "a quote", ['/nowhere/"quoted"']), (1, "a quote", ["/proc/nowhere\n"]), (2, "PREFIX", ["--prefix", "/nowhere"]), (2, "PREFIX", ["/nowhere", "/tmp"]),
 ])
 def test_wrong_words_are_refused(status, why, words):
     refuses(status, why, "./install", *words)
