@@ -168,6 +168,13 @@ def test_it_can_be_repeated_or_removed_after_a_fault_in_the_middle_of_an_upgrade
     assert files_in(prefix) == (EXPECTED if is_mended else {name})
 
 
+def test_a_copy_removes_nothing_of_what_was_copied(prefix, folder):
+    """The same goes for what DESTDIR staged, where /usr itself may have the files."""
+    run("cp", "-R", prefix, folder / "copy")
+    refuses(1, f"{prefix}/share/proved-argon2/uninstall removes", folder / "copy/share/proved-argon2/uninstall")
+    assert files_in(prefix) == files_in(folder / "copy") == EXPECTED
+
+
 @pytest.mark.parametrize("command", [["./install", "--remove", "{}"], ["{}/share/proved-argon2/uninstall"]])
 def test_a_removal_that_fails_can_be_repeated(prefix, folder, command):
     """A stand-in for rm fails at one of the last files."""
