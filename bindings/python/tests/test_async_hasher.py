@@ -512,5 +512,53 @@ def test_calls_that_wait_are_refused_if_the_only_thread_fails_and_is_not_replace
     asyncio.run(lose_the_only_thread())
 
 
+@pytest.mark.parametrize("computing, is_cancelled", [(0, False), (1, False), (2, False), (2, True)])
+def test_an_exception_of_a_signal_handler_takes_no_place_for_ever(monkeypatch, computing, is_cancelled):
+    """The handler raises it wherever Python runs handlers, in turn: at the beginning of a function, and after a call of
+    one in C. Meanwhile a call is given to a new or an idle thread, waits, or is cancelled."""
+    monkeypatch.setattr(_pool, "IDLE_SECONDS", 0.2)
+
+    class Raised(BaseException):
+        """The exception."""
+
+    def handle(frame, event, _):
+        if frame.f_code.co_filename == _pool.__file__ and event in ("call", "c_return"):
+            places.append(event)
+            if len(places) > at:
+                raise Raised
+
+    async def interrupt():
+        pool, go, both = _pool.Pool(2, 1), threading.Event(), threading.Barrier(2, timeout=PATIENCE / 4)
+        calls = [asyncio.ensure_future(pool.run(lambda progress: go.wait(PATIENCE), (), {})) for _ in range(computing)]
+        await asyncio.sleep(0)
+        while not (computing or pool._idle):
+            await pool.run(nothing, (), {})
+        call = pool.run(nothing, (), {})
+        if is_cancelled:
+            call.send(None)
+        with contextlib.suppress(Raised, asyncio.CancelledError):
+            sys.setprofile(handle)
+            try:
+                call.throw(asyncio.CancelledError()) if is_cancelled else call.send(None)
+            finally:
+                sys.setprofile(None)
+        call.close()
+        go.set()
+        await asyncio.gather(*calls)
+        while pool._jobs or pool._waiting:
+            await asyncio.sleep(0.001)
+        made = [asyncio.ensure_future(pool.run(lambda progress: both.wait(), (), {})) for _ in range(2)]
+        await asyncio.gather(*made, pool.run(nothing, (), {}))
+
+    def nothing(progress):
+        pass
+
+    at, places = 0, []
+    while len(places) >= at:
+        places.clear()
+        asyncio.run(asyncio.wait_for(interrupt(), PATIENCE / 4))
+        at += 1
+
+
 def test_a_program_that_ends_stops_its_calls():
     assert run(ENDS) == "the program ends\nthe call ends\n"

@@ -116,6 +116,10 @@ class Worker:
         self.job = job
         self._is_given.release()
 
+    def is_given(self) -> bool:
+        """Return whether the thread was given something that it has not taken yet."""
+        return not self._is_given.locked()
+
     def _work(self) -> None:
         try:
             self._work_until_let_go()
@@ -199,8 +203,7 @@ class Pool:
     def _is_taken(self, job: Job) -> bool:
         """Return whether an idle thread or a new one takes a job, or raise `BusyError` if there is no thread at all."""
         if self._idle:
-            self._idle[-1].give(job)
-            self._idle.pop()
+            self._idle.pop().give(job)
             return True
         if len(self._workers) == self._size:
             return False
@@ -214,19 +217,20 @@ class Pool:
 
     def _start_worker(self, job: Job) -> None:
         worker = Worker(self)
-        self._workers.add(worker)
         try:
+            self._workers.add(worker)
             worker.start(job)
         except BaseException:
-            self._workers.discard(worker)
+            if worker.job is None:  # Otherwise the thread does its job, and goes on.
+                self._workers.discard(worker)
             raise
 
     def _withdraw(self, job: Job) -> None:
         """Free the place of a cancelled call if it waits. One that computes keeps its place until it has stopped."""
         with self._lock:
             if job in self._waiting:
+                self._jobs.discard(job)  # If a signal handler raises after this, the place is free all the same.
                 self._waiting.remove(job)
-                self._jobs.discard(job)
 
     def forget(self, job: Job) -> None:
         """Free the place of a call that has ended."""
@@ -246,13 +250,17 @@ class Pool:
             return True
 
     def dismisses(self, worker: Worker) -> bool:
-        """Return whether an idle thread may end: it may not if it was given a job at the last moment."""
+        """Return whether an idle thread may end: it may not if it was given a job at the last moment.
+
+        A thread that is not in the list of idle ones may end too: a signal handler raised while it was given a job.
+        """
         with self._lock:
-            is_idle = worker in self._idle
-            if is_idle:
+            if worker.is_given():
+                return False
+            if worker in self._idle:
                 self._idle.remove(worker)
-                self._workers.discard(worker)
-            return is_idle
+            self._workers.discard(worker)
+            return True
 
     def replace(self, worker: Worker) -> None:
         """Forget a thread that ends, and end its call. Have another thread make a call that waits, or end those too.
