@@ -43,6 +43,8 @@ SMALL = {"time_cost": 1, "memory_cost": 32, "parallelism": 2}
 TEXT = "$argon2i$v=19$m=256,t=2,p=1$c29tZXNhbHQ$iekCn0Y3spW+sCcFanM2xBT63UP2sghkUoHLIUpWRS8"
 OTHER = {**SMALL, "time_cost": 2}
 OLD_CALLS = hash_password, hash_password_raw, verify_password
+# The library's calls that make a hash.
+OF_A_HASH = "check", "encoded_len", "hash_encoded_with"
 of_the_old_calls = pytest.mark.filterwarnings("ignore:.* is deprecated:DeprecationWarning")
 
 
@@ -280,6 +282,32 @@ def test_verify_and_update_accepts_the_password_if_the_new_hash_cannot_be_comput
     old = PasswordHasher(**OTHER).hash("password")
     with mock.patch.object(PasswordHasher, "hash", side_effect=error):
         assert PasswordHasher(**SMALL).verify_and_update(old, "password") == (True, None)
+
+
+class Denied:
+    """Stands in for the type of a parameter when memory runs out while `ctypes` converts an argument."""
+
+    @staticmethod
+    def from_param(_):
+        raise MemoryError
+
+
+@pytest.mark.parametrize("name, call, expected", [
+    *((name, lambda hasher, old: hasher.hash("password"), HashingError) for name in OF_A_HASH),
+    *((name, lambda hasher, old: hasher.verify_and_update(old, "password"), (True, None)) for name in OF_A_HASH),
+    *((name, lambda hasher, old: hasher.verify(old, "Password"), VerificationError)
+      for name in ("read", "verify_encoded_with", "message")),
+    ("read", lambda hasher, old: extract_parameters(old), MemoryError)])
+def test_memory_that_is_denied_to_ctypes_has_run_out(monkeypatch, name, call, expected):
+    old, (types, result) = PasswordHasher(**OTHER).hash("password"), _library._CALLS[name]
+    monkeypatch.setitem(_library._CALLS, name, ([Denied, *types[1:]], result))
+    monkeypatch.setattr(_library, "_library", _library._load())
+    if isinstance(expected, tuple):
+        assert call(PasswordHasher(**SMALL), old) == expected
+    else:
+        with pytest.raises(expected, match="^Out of memory$") as raised:
+            call(PasswordHasher(**SMALL), old)
+        assert raised.type is expected
 
 
 @of_the_old_calls
