@@ -512,6 +512,41 @@ def test_calls_that_wait_are_refused_if_the_only_thread_fails_and_is_not_replace
     asyncio.run(lose_the_only_thread())
 
 
+@fails_in_threads
+def test_a_call_that_is_refused_since_its_thread_failed_is_not_made_by_a_new_thread(monkeypatch):
+    """The system denies a thread, and allows one for the next call while the result is delivered."""
+    made, delivers, go = [], _pool.Job.deliver, threading.Event()
+
+    def fail(job):
+        go.wait(PATIENCE)
+        monkeypatch.undo()
+        monkeypatch.setattr(_pool.Job, "deliver", deliver_late)
+        monkeypatch.setattr(threading.Thread, "start", deny)
+        raise SystemExit
+
+    def deliver_late(job):
+        if job is waiting[0]:
+            monkeypatch.undo()
+            asyncio.run(hasher.run(lambda progress: None))
+            while hasher._pool._waiting:
+                time.sleep(0.001)
+        delivers(job)
+
+    async def lose_the_only_thread():
+        calls = [asyncio.ensure_future(hasher.run(lambda progress: made.append(1))) for _ in range(2)]
+        await asyncio.sleep(0)
+        waiting.extend(hasher._pool._waiting)
+        go.set()
+        for call in calls:
+            with pytest.raises(BusyError, match="^a thread failed"):
+                await asyncio.wait_for(call, PATIENCE / 4)
+
+    hasher, waiting = AsyncPasswordHasher(HASHER, concurrency=1, waiting=1), []
+    monkeypatch.setattr(_pool.Job, "run", fail)
+    asyncio.run(lose_the_only_thread())
+    assert not made
+
+
 @pytest.mark.parametrize("computing, is_cancelled", [(0, False), (1, False), (2, False), (2, True)])
 def test_an_exception_of_a_signal_handler_takes_no_place_for_ever(monkeypatch, computing, is_cancelled):
     """The handler raises it wherever Python runs handlers, in turn: at the beginning of a function, and after a call of

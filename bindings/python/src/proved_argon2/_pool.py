@@ -271,29 +271,26 @@ class Pool:
             self._workers.discard(worker)
             if worker in self._idle:
                 self._idle.remove(worker)
-        if worker.job is not None:
-            self.forget(worker.job)
-            worker.job.deliver()
-            worker.job = None
-        job = self._first_without_thread()
+        job = self._call_to_end(worker)
         while job is not None:
             self.forget(job)  # The place is free when the caller goes on.
             job.deliver()
-            self._withdraw(job)
-            job = self._first_without_thread()
+            worker.job = None
+            job = self._call_to_end(worker)
         worker.is_replaced = True
 
-    def _first_without_thread(self) -> "Optional[Job]":
-        """Have another thread take the first job that waits. Return this job if there is no thread at all."""
+    def _call_to_end(self, worker: Worker) -> "Optional[Job]":
+        """Return a call that a thread which ends has to end: its own, or one that waits while there is no other thread.
+        Have another thread take the first call that waits.
+        """
         with self._lock:
-            if self._is_closed or not self._waiting:
-                return None
-            try:
-                if self._is_taken(self._waiting[0]):
-                    self._waiting.popleft()
-            except BusyError:
-                return self._waiting[0]
-            return None
+            if worker.job is None and not self._is_closed and self._waiting:
+                try:
+                    if self._is_taken(self._waiting[0]):
+                        self._waiting.popleft()
+                except BusyError:
+                    worker.job = self._waiting.popleft()
+            return worker.job
 
     def close(self) -> None:
         """Stop all calls, and wait until no thread computes."""
