@@ -9,7 +9,7 @@ use argon2::{
 };
 use std::fs::{read_to_string, File};
 use std::io::Read;
-use std::sync::atomic::{AtomicBool, AtomicUsize, Ordering::SeqCst};
+use std::sync::atomic::{AtomicBool, AtomicI32, AtomicUsize, Ordering::SeqCst};
 use std::thread;
 use std::time::{Duration, Instant};
 
@@ -24,10 +24,14 @@ static THREADS: AtomicUsize = AtomicUsize::new(0);
 static ARE_THREADS_DENIED: AtomicBool = AtomicBool::new(false);
 const EAGAIN: i32 = 11;
 
+/// The process ID, in place of the system's.
+static ID: AtomicI32 = AtomicI32::new(1);
+
 extern "C" {
     fn __real_pthread_create(thread: usize, attributes: usize, start: usize, argument: usize) -> i32;
     fn __real_proved_argon2_memory_new(settings: usize, memory: &mut usize, size: &mut usize) -> u32;
     fn fork() -> i32;
+    fn _Fork() -> i32;
     fn waitpid(child: i32, status: &mut i32, options: i32) -> i32;
     fn _exit(status: i32) -> !;
 }
@@ -51,6 +55,11 @@ unsafe extern "C" fn __wrap_pthread_create(thread: usize, attributes: usize, sta
     let error = __real_pthread_create(thread, attributes, start, argument);
     THREADS.fetch_add(usize::from(error == 0), SeqCst);
     error
+}
+
+#[no_mangle]
+extern "C" fn getpid() -> i32 {
+    ID.load(SeqCst)
 }
 
 /// The bytes of the buffer that was allocated last, which is this one.
@@ -137,7 +146,7 @@ fn errors_leave_the_buffer_unchanged() {
 /// How often the memory that this process may write to contains these bytes. A forked child counts, in which no other
 /// thread unmaps memory meanwhile.
 fn occurrences_of(word: &[u8]) -> usize {
-    (status_of_child(|| count(word) as i32) >> 8) as usize
+    (status_of_child(fork, || count(word) as i32) >> 8) as usize
 }
 
 fn count(word: &[u8]) -> usize {
@@ -256,7 +265,7 @@ fn a_line_without_a_thread_keeps_no_buffer() {
 }
 
 /// How a forked child ended that exits with the number that this work returns.
-fn status_of_child(work: impl FnOnce() -> i32) -> i32 {
+fn status_of_child(fork: unsafe extern "C" fn() -> i32, work: impl FnOnce() -> i32) -> i32 {
     let mut status = -1;
     unsafe {
         let child = fork();
@@ -269,8 +278,9 @@ fn status_of_child(work: impl FnOnce() -> i32) -> i32 {
 }
 
 /// In a forked child all places are free, though the parent holds both and another thread waits. The child uses no
-/// buffer of the parent, not even in a place that it inherits.
-fn a_forked_child_has_all_places_and_no_buffer() {
+/// buffer of the parent, not even in a place that it inherits. Its ID is that of the parent if both are the first
+/// processes of their PID namespaces. `_Fork` calls no handlers, as the system's own call.
+fn a_forked_child_has_all_places_and_no_buffer(fork: unsafe extern "C" fn() -> i32, id: i32) {
     let line = Line::new(2, 1);
     let (held, mut inherited) = (line.wait().unwrap(), line.wait().unwrap());
     inherited.run().hash_raw(PWD, SALT, &Config::default()).unwrap();
@@ -284,7 +294,8 @@ fn a_forked_child_has_all_places_and_no_buffer() {
     let kept = Line::new(1, 0);
     hash_in(&kept);
     let before = allocations();
-    let status = status_of_child(move || {
+    let status = status_of_child(fork, move || {
+        ID.store(id, SeqCst);
         hash_in(&kept);
         assert_eq!(allocations(), before + 1);
         inherited.run().hash_raw(PWD, SALT, &Config::default()).unwrap();
@@ -309,6 +320,7 @@ fn main() {
     a_hasher_of_the_traits_verifies_with_at_most_16_threads();
     a_place_whose_buffer_is_denied_computes_without_one();
     a_line_without_a_thread_keeps_no_buffer();
-    a_forked_child_has_all_places_and_no_buffer();
+    a_forked_child_has_all_places_and_no_buffer(_Fork, 2);
+    a_forked_child_has_all_places_and_no_buffer(fork, 1);
     a_line_keeps_a_cleared_buffer_for_ten_seconds();
 }

@@ -4,8 +4,10 @@
 //! length of what is passed as `*mut`, and keeps no pointer. The pointer of a slice is never null.
 
 mod calls;
+mod process;
 mod salt;
 
+pub use process::Process;
 pub use salt::{new_salt, SALT_SIZE};
 
 use crate::{Config, Limits};

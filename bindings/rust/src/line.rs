@@ -1,4 +1,4 @@
-use crate::ffi::{self, Settings};
+use crate::ffi::{self, Process, Settings};
 use crate::{Config, Memory, Run};
 use std::collections::VecDeque;
 use std::future::Future;
@@ -6,7 +6,7 @@ use std::pin::Pin;
 use std::sync::{Arc, Mutex, MutexGuard, Weak};
 use std::task::{Context, Poll, Wake, Waker};
 use std::time::{Duration, Instant};
-use std::{error, fmt, mem, process, thread};
+use std::{error, fmt, mem, thread};
 
 /// How long a buffer that no place uses is kept.
 const IDLE: Duration = Duration::from_secs(10);
@@ -60,7 +60,7 @@ struct Shared {
 #[derive(Debug)]
 struct State {
     /// The process in which this state is true.
-    process: u32,
+    process: Process,
     /// The places that nobody holds.
     free: usize,
     next_ticket: u64,
@@ -90,7 +90,7 @@ impl error::Error for Busy {}
 #[derive(Debug)]
 pub struct Place {
     line: Arc<Shared>,
-    process: u32,
+    process: Process,
     memory: Memory,
 }
 
@@ -99,7 +99,7 @@ pub struct Place {
 pub struct Enter {
     line: Arc<Shared>,
     /// The process and the number of a caller who waits.
-    ticket: Option<(u32, u64)>,
+    ticket: Option<(Process, u64)>,
 }
 
 impl Line {
@@ -152,7 +152,7 @@ impl Line {
 impl Place {
     /// Calls that compute in this place's buffer. If the system denies memory for it, a call allocates its own memory.
     pub fn run(&mut self) -> Run<'_> {
-        if self.process != process::id() {
+        if self.process != Process::current() {
             self.memory = Memory::new(); // in a forked child it would be a copy of the parent's
         }
         Run::new().over_if_granted(&mut self.memory)
@@ -162,7 +162,7 @@ impl Place {
 impl State {
     fn new(free: usize) -> State {
         let (queue, kept) = (VecDeque::new(), Vec::new());
-        State { process: process::id(), free, next_ticket: 0, queue, kept, is_watched: false }
+        State { process: Process::current(), free, next_ticket: 0, queue, kept, is_watched: false }
     }
 
     /// Takes the buffers that have been idle for this long, and returns the time until the next one is due.
@@ -178,7 +178,7 @@ impl Shared {
     /// The state, which is a new one in a forked child: the threads that hold places or wait are the parent's.
     fn lock(&self) -> MutexGuard<'_, State> {
         let mut state = self.state.lock().unwrap_or_else(|poisoned| poisoned.into_inner());
-        if state.process != process::id() {
+        if state.process != Process::current() {
             let parents = mem::replace(&mut *state, State::new(self.concurrency));
             // (dropping a waker may call a runtime whose threads exist only in the parent)
             mem::forget(parents.queue);
@@ -246,7 +246,7 @@ impl Wake for Unpark {
 
 impl Drop for Place {
     fn drop(&mut self) {
-        if self.process == process::id() {
+        if self.process == Process::current() {
             self.line.leave(mem::take(&mut self.memory));
         }
     }
