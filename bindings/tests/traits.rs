@@ -74,6 +74,8 @@ fn differs() {
     let salt = Salt::try_from("c29tZXNhbHQ").unwrap();
     let own = costly.hash_password_customized(b"password", None, None, Params::default(), salt).unwrap();
     assert!(own.to_string().starts_with("$argon2id$v=19$m=8,t=1000,p=1$"), "{own}");
+    let older = costly.hash_password_customized(b"password", None, Some(16), Params::default(), salt).unwrap();
+    assert!(older.to_string().starts_with("$argon2id$v=16$m=8,t=1000,p=1$"), "{older}");
 }
 
 fn main() {

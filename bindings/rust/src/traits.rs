@@ -204,7 +204,9 @@ impl PasswordHasher for Argon2<'_> {
         salt: impl Into<Salt<'a>>,
     ) -> Result<PasswordHash<'a>> {
         let config = match algorithm {
-            None => self.with(params),
+            None => {
+                Config { version: version.map_or(Ok(self.config.version), Version::from_u32)?, ..self.with(params) }
+            }
             Some(name) => self.config_of(name, version, params)?,
         };
         let salt = salt.into();
