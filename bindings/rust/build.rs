@@ -153,7 +153,8 @@ fn run(command: &mut Command) -> Result<(), String> {
 
 /// The folder that `pkg-config` names, if it has the archive. `pkg-config` only knows libraries of this machine.
 fn installed_folder() -> Option<PathBuf> {
-    if !named("HOST").starts_with(&format!("{}-", target("ARCH"))) {
+    let (host, system) = (named("HOST"), target("OS"));
+    if host.split('-').next() != named("TARGET").split('-').next() || !host.contains(&system) {
         return None;
     }
     let answer = Command::new("pkg-config").args(["--variable=libdir", "proved_argon2"]).output().ok()?;

@@ -477,9 +477,12 @@ def test_the_build_script_compiles_the_library_as_c_for_a_target_without_an_arch
     other.refuses("it is of other sources", old)
 
 
-def test_the_build_script_uses_no_installation_for_another_machine(built, other, tmp_path):
+def test_the_build_script_uses_an_installation_only_for_this_machine(built, other, tmp_path):
+    """For the same processor and system, also where the target's first word is not cargo's name of the processor."""
     shutil.rmtree(other.folder / "release")
     (tmp_path / "proved_argon2.pc").write_text(f"libdir={built / MACHINE}\nName: x\nDescription: x\nVersion: 1\n")
-    target = "aarch64-unknown-linux-gnu"
-    other.refuses(f"there is no libproved_argon2.a for {target}", f"{target} aarch64 linux gnu 64",
-                  PKG_CONFIG_PATH=tmp_path)
+    for target in ("aarch64-unknown-linux-gnu aarch64 linux gnu 64", WINDOWS):
+        other.refuses(f"there is no libproved_argon2.a for {target.split()[0]}", target, PKG_CONFIG_PATH=tmp_path)
+    riscv = "riscv64gc-unknown-linux-gnu"
+    for target, host in (TARGET.replace("gnu", "musl"), TARGET.split()[0]), (f"{riscv} riscv64 linux gnu 64", riscv):
+        other.links(target, built / MACHINE, PKG_CONFIG_PATH=tmp_path, HOST=host)
