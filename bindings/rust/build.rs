@@ -126,6 +126,7 @@ fn compiled_folder(sources: &Path) -> Result<PathBuf, String> {
     let folder = PathBuf::from(named("OUT_DIR"));
     let objects = c.iter().filter_map(|file| Some(file.with_extension("o").file_name()?.to_owned()));
     run(Command::new(tool("CC", "cc")?).args(["-O2", "-fPIC", "-c"]).args(&c).current_dir(&folder))?;
+    let _ = fs::remove_file(folder.join(ARCHIVE)); // (`ar` would keep the objects of sources that are gone)
     run(Command::new(tool("AR", "ar")?).args(["rcs", ARCHIVE]).args(objects).current_dir(&folder))?;
     println!("cargo:warning=there is no archive for {}: the library as C was compiled", named("TARGET"));
     println!("cargo:rerun-if-changed={}", sources.display());

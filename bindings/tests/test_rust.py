@@ -463,15 +463,17 @@ def test_the_build_script_uses_release_only_if_it_is_of_these_sources(tmp_path, 
 
 @needs("aarch64-linux-gnu-gcc")
 def test_the_build_script_compiles_the_library_as_c_for_a_target_without_an_archive(tmp_path, other):
-    """With the compiler that CC names."""
+    """With the compiler that CC names, into a new archive: an old one has objects of sources that are gone."""
     repository, made = Repository(tmp_path / "current", True), tmp_path / "made"
     made.mkdir()
+    run("aarch64-linux-gnu-ar", "rcs", made / "libproved_argon2.a", tmp_path / "current/build/check_release")
     for one in (repository, other):
         one.has_sources()
     said = repository.links("aarch64_be-unknown-linux-gnu aarch64_be linux gnu 64 big", made, OUT_DIR=made,
                             CC="aarch64-linux-gnu-gcc", AR="aarch64-linux-gnu-ar")
     assert "cargo:warning=there is no archive for aarch64_be-" in said
     assert " T proved_argon2_hash_raw\n" in run("aarch64-linux-gnu-nm", made / "libproved_argon2.a")
+    assert "check_release" not in run("aarch64-linux-gnu-ar", "t", made / "libproved_argon2.a")
     old = "i686-unknown-linux-gnu x86 linux gnu 32"
     repository.refuses("name a compiler and an archiver for it in CC and AR", old)
     other.refuses("it is of other sources", old)
