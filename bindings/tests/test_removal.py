@@ -196,7 +196,8 @@ def test_a_user_without_rights_is_refused(folder):
 
 
 @pytest.mark.parametrize("status, why, words", [
-    (1, "a quote", ['/nowhere/"quoted"']), (1, "a quote", ["/proc/nowhere\n"]), (2, "PREFIX", ["--prefix", "/nowhere"]), (2, "PREFIX", ["/nowhere", "/tmp"]),
+    (1, "a quote", ['/nowhere/"quoted"']), (1, "a quote", ["/proc/nowhere\n"]),
+    (2, "PREFIX", ["--prefix", "/nowhere"]), (2, "PREFIX", ["/nowhere", "/tmp"]),
 ])
 def test_wrong_words_are_refused(status, why, words):
     refuses(status, why, "./install", *words)
