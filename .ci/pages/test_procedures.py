@@ -140,6 +140,15 @@ def test_the_tag_is_signed_only_if_nothing_prevents_it(finished):
     finished.run('git', 'tag', '--verify', finished.run('git', 'tag').strip())
 
 
+def test_only_a_signature_over_the_checksums_passes_the_command_of_the_page(finished):
+    """By SHA256SUMS.asc alone, gpg accepts any signed message there, and does not read SHA256SUMS."""
+    command, = re.findall(r'^    (gpg --verify .*)$', read('docs/INSTALL.md'), re.M)
+    for form, status in ('--detach-sign', 0), ('--clear-sign', 2):
+        signed = 'SHA256SUMS' if status == 0 else 'VERSION'
+        made = f'sha256sum VERSION >SHA256SUMS; gpg --yes --armor {form} -o SHA256SUMS.asc {signed}; {command}'
+        assert run('sh', '-c', made, cwd=finished.top).returncode == status
+
+
 @pytest.mark.parametrize('change, place', [
     ((CONFIG, '46 MiB, 1 pass.', '46 MiB, 3 passes.'), CONFIG),
     ((ROWS, '\nConfig::owasp1\t', '\nConfig::owasp\t'), ROWS),
