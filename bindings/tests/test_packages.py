@@ -98,6 +98,13 @@ def test_packages_made_elsewhere_by_another_user_have_the_same_bytes(packages, t
     assert read(home / 'made/SHA256SUMS') == read(packages / 'SHA256SUMS')
 
 
+def test_a_tarball_is_the_same_with_a_libdir_and_replaces_a_link(packages, tmp_path):
+    (tmp_path / 'victim').write_text('mine')
+    (tmp_path / 'SHA256SUMS').symlink_to('victim')
+    run('./package', 'tarball', '--to', tmp_path, env={'LIBDIR': '/opt/lib', 'CDPATH': '/opt'})
+    assert read(tmp_path / 'victim') == 'mine' and read(tmp_path / 'SHA256SUMS') in read(packages / 'SHA256SUMS')
+
+
 @needs('lintian')
 def test_lintian_finds_nothing(packages):
     run('lintian', '--allow-root', '--pedantic', '--fail-on', 'error,warning,info,pedantic',
