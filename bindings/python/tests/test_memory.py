@@ -10,7 +10,7 @@ from unittest import mock
 
 import pytest
 from processes import resident
-from proved_argon2 import Limits, PasswordHasher, Type, _library
+from proved_argon2 import Limits, PasswordHasher, Type, _library, _memory
 from proved_argon2.exceptions import HashingError, TooCostlyError, VerificationError, VerifyMismatchError
 from proved_argon2.low_level import Memory, hash_secret, hash_secret_raw, verify_secret
 
@@ -152,6 +152,18 @@ def test_an_exception_returns_the_buffer_to_the_memory(new):
         raise KeyboardInterrupt
     raw(64, memory)
     assert (new.call_count, len(memory._free)) == (1, 1)
+
+
+def test_a_buffer_that_cannot_be_freed_now_is_freed_later():
+    """Memory may run out before the library is called."""
+    pages = _memory.Pages()
+    assert pages.grow(NEEDED)
+    address = pages.address
+    with pytest.raises(_library.Refused):
+        pages.give_back(mock.Mock(side_effect=_library.Refused(_library.OUT_OF_MEMORY)))
+    freed = mock.Mock(side_effect=_library.memory_free)
+    pages.give_back(freed)
+    freed.assert_called_once_with(address, 64 << 10)
 
 
 @pytest.mark.parametrize("copied", [copy.copy, copy.deepcopy, lambda hasher: pickle.loads(pickle.dumps(hasher))])

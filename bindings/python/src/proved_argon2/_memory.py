@@ -52,7 +52,11 @@ class Pages:
         if self.length:
             address, length = self.address, self.length
             self.address, self.length = _NOWHERE, 0
-            free(address, length)
+            try:
+                free(address, length)
+            except Refused:  # Memory ran out before the call. The next one may succeed.
+                self.address, self.length = address, length
+                raise
 
     def __del__(self) -> None:
         self.give_back()

@@ -104,7 +104,9 @@ class Worker:
         self._is_given.acquire()
 
     def start(self, job: Job) -> None:
-        """Start the thread with a job. If this raises an exception, the thread, if there is one, only ends."""
+        """Start the thread with a job. If this raises an exception, and `job` is `None`, the thread only ends, if there
+        is one.
+        """
         try:
             self.thread.start()
             self.job = job
