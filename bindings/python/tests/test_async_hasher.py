@@ -165,7 +165,8 @@ def test_concurrent_and_waiting_calls_are_limited():
     async def exceed():
         hasher = AsyncPasswordHasher(concurrency=2, waiting=3)
         calls = [asyncio.ensure_future(hasher.run(call)) for _ in range(5)]
-        await asyncio.sleep(0.05)
+        while running < 2:
+            await asyncio.sleep(0.01)
         with pytest.raises(BusyError, match="5 calls compute or wait"):
             await hasher.hash("password")
         go.set()
