@@ -43,7 +43,7 @@ impl Memory {
         self.buffer.length()
     }
 
-    /// Notes that a call with these settings was made in this buffer.
+    /// Records the time, if a call that has just computed with these settings needed more than half of this buffer.
     pub(crate) fn note_need(&mut self, settings: &Settings) {
         let (size, need) = (self.size() as u64, ffi::memory_len(settings));
         if need <= size && size < 2 * need {

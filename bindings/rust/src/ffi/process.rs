@@ -3,14 +3,14 @@
 use std::process;
 use std::sync::atomic::{AtomicUsize, Ordering::SeqCst};
 
-/// How many forks are between the process that began to count them and this one.
+/// How many times `fork` was called to get from the process that began to count to this one.
 static FORKS: AtomicUsize = AtomicUsize::new(0);
 
 /// A process. A forked child is another one even if it has its parent's ID, as the first processes of two PID
 /// namespaces have.
 #[derive(Clone, Copy, Debug, Eq, PartialEq)]
 pub struct Process {
-    /// (a child that was made without `fork`, as by `clone`, differs in this alone)
+    /// The process ID. Only this differs in a child that was made without `fork`, for example by `clone`.
     id: u32,
     forks: usize,
 }
@@ -22,7 +22,8 @@ impl Process {
     }
 }
 
-/// From the first call on, each child that `fork` makes adds one, unless the system denied memory for the handler.
+/// The first call registers a handler that adds one in each forked child. If the system denies memory for the handler,
+/// nothing is counted.
 #[cfg(unix)]
 fn count_forks() {
     use std::os::raw::c_int;
@@ -38,10 +39,10 @@ fn count_forks() {
         FORKS.fetch_add(1, SeqCst);
     }
 
-    /// (not a lock, which a forked child may find held for ever)
+    /// Whether the handler was registered. A lock could be held for ever in a forked child.
     static IS_COUNTED: AtomicBool = AtomicBool::new(false);
     if !IS_COUNTED.swap(true, SeqCst) {
-        // SAFETY: the handler is a function without arguments, and only adds to an atomic number, as any child may.
+        // SAFETY: the handler takes no arguments and only adds to an atomic number, which is safe in a forked child.
         unsafe { pthread_atfork(None, None, Some(count)) };
     }
 }
