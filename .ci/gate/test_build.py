@@ -4,6 +4,7 @@ command, option or path in scripts that read it."""
 import hashlib
 import re
 import shutil
+import sys
 
 import pytest
 from shared import TOP, run
@@ -90,6 +91,26 @@ def test_cdpath_leads_a_script_to_no_other_folder(tmp_path, script):
     (tmp_path / 'other/build/current.sh').write_text('touch ran; names_packages() { :; }\n', encoding='utf-8')
     assert run('env', f'CDPATH={tmp_path}/other', script, cwd=tmp_path / 'tree').returncode == 1
     assert {file.name for file in (tmp_path / 'other').iterdir()} == {'build', '.ci', 'out'}
+
+
+@pytest.mark.parametrize('script, words, folder', [
+    ('build/prove', (), 'build'), ('build/write_coff', (), 'build'), ('bindings/java/pack', (), 'bindings/java'),
+    ('bindings/javascript/inline/make.py', (), 'bindings/javascript/inline'),
+    ('build/translate', ('archive', 'made'), 'bindings/portable')])
+def test_a_script_of_the_build_runs_no_module_that_lies_beside_it(tmp_path, script, words, folder):
+    """Such a module could replace a built file before it is compared with release/."""
+    for copied in 'build', folder:
+        shutil.copytree(TOP / copied, tmp_path / copied, dirs_exist_ok=True)
+    names = {name for file in (tmp_path / folder).iterdir() if file.is_file()
+             for name in re.findall(r'^(?:import|from) (\w+)', file.read_text(encoding='utf-8'), re.M)}
+    for name in names & sys.stdlib_module_names:
+        (tmp_path / folder / f'{name}.py').write_text('raise SystemExit("a planted module ran")\n', encoding='utf-8')
+    for tool in 'toolchain/bin/clang', 'toolchain/bin/ld.lld', 'bin/rattle-link':
+        (tmp_path / 'kit' / tool).parent.mkdir(parents=True, exist_ok=True)
+        (tmp_path / 'kit' / tool).write_text('#!/bin/sh\n', encoding='utf-8')
+        (tmp_path / 'kit' / tool).chmod(0o755)
+    came = run('env', f'PATH={tmp_path}/kit/bin:/usr/bin:/bin', tmp_path / script, *words)
+    assert names and came.returncode != 0 and 'planted' not in came.stdout, came.stdout
 
 
 def test_an_empty_release_is_rejected(tmp_path):

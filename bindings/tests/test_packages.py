@@ -88,8 +88,12 @@ def there():
 
 
 def test_packages_made_elsewhere_by_another_user_have_the_same_bytes(packages, there):
-    """In another folder, by another user with another umask, clock, zone and language, and one processor."""
+    """In another folder, by another user with another umask, clock, zone and language, and one processor. Modules that
+    lie beside the scripts are not run."""
     tree, home = copy_tree(there / 'tree'), there / 'home'
+    for folder in 'bindings/java', 'bindings/javascript/inline', 'bindings/python', '.':
+        for name in 'base64', 'hatchling', 'tempfile', 'zipfile':
+            (tree / folder / f'{name}.py').write_text('raise SystemExit("a planted module ran")\n', encoding='utf-8')
     run('bash', '-c', f'install -d -m 777 {home} && chmod -R a+rX {there}')
     late = ['faketime', '-f', '+40d'] if shutil.which('faketime') else []
     run('bash', '-c', 'umask 077 && cd / && "$@"', 'bash', 'taskset', '-c', '0', 'setpriv', '--reuid=65534',

@@ -1,4 +1,4 @@
-#!/usr/bin/env -S python3 -B
+#!/usr/bin/env -S python3 -BI
 """Makes the package's single files: make.py SOURCES MODULES
 
 Into the folder SOURCES it writes `inline.js`, an ES module, and `inline.cjs`, which is CommonJS. Each has all of the
