@@ -317,7 +317,8 @@ uint32_t proved_argon2_check_encoded(
 PROVED_ARGON2_CHECKED
 uint64_t proved_argon2_encoded_len(const proved_argon2_settings *settings, uint32_t salt_len);
 
-/* The constant message of the error with this number or, if there is none, of PROVED_ARGON2_UNKNOWN_NUMBER. */
+/* The constant message of a number that a call returns: "No error" for PROVED_ARGON2_OK, and the message of
+ * PROVED_ARGON2_UNKNOWN_NUMBER for a number that no call returns. */
 const char *proved_argon2_message(uint32_t number);
 
 /* clang-format on */

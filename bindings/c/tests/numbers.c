@@ -60,7 +60,7 @@ static const known_error known_errors[] = {
 };
 /* clang-format on */
 
-/* A message for each number of the header and for no other one. */
+/* There is a message for success, one for each error of the header, and none for any other number. */
 static void check_errors(void)
 {
     const char *const unknown = proved_argon2_message(PROVED_ARGON2_UNKNOWN_NUMBER);
@@ -72,7 +72,9 @@ static void check_errors(void)
     }
     for (uint32_t number = 0; number < 1000; number++)
         known += proved_argon2_message(number) != unknown;
-    check(known + 1 == sizeof known_errors / sizeof *known_errors, "the library has no other error");
+    check(strcmp(proved_argon2_message(PROVED_ARGON2_OK), "No error") == 0, "the message of success says so");
+    /* (Success has a message of its own, and the unknown number has the one that is not counted.) */
+    check(known == sizeof known_errors / sizeof *known_errors, "the library has no other error");
 }
 
 /* ---- variants and versions */
@@ -265,5 +267,5 @@ int main(void)
     }
     check(proved_argon2_library_version() == PROVED_ARGON2_LIBRARY_VERSION_NUMBER, "the version of the library");
     printf("version %s %u\n", PROVED_ARGON2_LIBRARY_VERSION, (unsigned)PROVED_ARGON2_LIBRARY_VERSION_NUMBER);
-    return finish(errors + recommended + 37);
+    return finish(errors + recommended + 38);
 }

@@ -140,11 +140,11 @@ mod tests {
     use crate::Unverified;
 
     /// Numbers that this crate's calls never return, or return as something other than an error.
-    const OF_OTHER_CALLS: [u32; 10] = [64, 65, NOT_ASCII, 68, 69, 70, 71, 72, 128, 132];
+    const OF_OTHER_CALLS: [u32; 11] = [0, 64, 65, NOT_ASCII, 68, 69, 70, 71, 72, 128, 132];
 
     #[test]
     fn every_number_of_the_library_is_an_error_with_the_library_s_message_or_unknown() {
-        let unknown = message(0);
+        let unknown = message(u32::MAX);
         for number in (0..1000).chain([u32::MAX]).filter(|number| *number != NOT_ASCII) {
             let error = Error::of_number(number);
             let is_known = message(number) != unknown && !OF_OTHER_CALLS.contains(&number);
