@@ -1,5 +1,6 @@
 // What Node and browsers do differently: files, workers, the number of processors, and how other tasks get their turn.
 import { Unsupported } from './errors.js';
+import { processorsOfQuota } from './quota.js';
 
 // Node's own modules are loaded without an import, which would fail in browsers and bundlers.
 const builtin = (name) => globalThis.process?.getBuiltinModule?.(`node:${name}`);
@@ -24,9 +25,25 @@ export const canStartWorkers = () => (nodeThreads
     ? globalThis.process.permission?.has('worker') !== false
     : globalThis.Worker !== undefined);
 
+/** The text of a file, or '' if it cannot be read. */
+function textOf(name) {
+    try {
+        return builtin('fs').readFileSync(name, 'utf8');
+    } catch {
+        return '';
+    }
+}
+
+/** The processors of the quota of this process, which is read once, since each call asks for it. */
+let quota;
+
 /** How many workers can run at the same time. */
 export function processors() {
-    return nodeThreads ? builtin('os').availableParallelism() : globalThis.navigator?.hardwareConcurrency ?? 1;
+    if (nodeThreads === undefined) {
+        return globalThis.navigator?.hardwareConcurrency ?? 1;
+    }
+    quota ??= processorsOfQuota(textOf);
+    return Math.max(1, Math.min(builtin('os').availableParallelism(), quota));
 }
 
 /** The memory in bytes that this process may use, as far as the engine knows. */

@@ -1,10 +1,12 @@
 // A line: a number of calls compute, more wait in order, others are rejected at once, and each call frees its place,
 // however it ends.
 import assert from 'node:assert/strict';
+import { execFile } from 'node:child_process';
 import { getEventListeners } from 'node:events';
 import os from 'node:os';
 import { test } from 'node:test';
 import { setImmediate as immediate, setTimeout as sleep } from 'node:timers/promises';
+import { promisify } from 'node:util';
 import { BusyError, hash, Line, PepperedHasher, verify, verifyAndUpdate } from 'proved-argon2';
 
 const SMALL = { memoryCost: 64, timeCost: 1 };
@@ -196,6 +198,54 @@ test('by default as many calls compute as fit into processors and memory, and 16
         Object.assign(process, { constrainedMemory });
     }
 });
+
+const OF_UNIT = '0::/system.slice/it.service\n';
+const OF_CONTAINER = '0::/\n';
+const QUOTAS = [
+    // Version 2: a container with one processor, a unit of systemd with CPUQuota, and a quota of the slice above it.
+    [OF_CONTAINER, { 'cpu.max': '100000 100000\n' }, 1],
+    [OF_UNIT, { 'system.slice/it.service/cpu.max': '150000 50000\n' }, 3],
+    [OF_UNIT, { 'system.slice/cpu.max': '200000 100000\n', 'system.slice/it.service/cpu.max': 'max 100000\n' }, 2],
+    [OF_UNIT, { 'system.slice/other.service/cpu.max': '100000 100000\n' }, Infinity],
+    ['0::/a:b\n', { 'a:b/cpu.max': '100000 100000\n' }, 1],
+    // Parts of a processor, and no quota.
+    [OF_CONTAINER, { 'cpu.max': '299999 100000\n' }, 2],
+    [OF_CONTAINER, { 'cpu.max': '10000 100000\n' }, 0],
+    [OF_CONTAINER, { 'cpu.max': 'max 100000\n' }, Infinity],
+    // Version 1: a cgroup, a quota of the one above it, and a container, in which the path is the host's.
+    ['4:memory:/x\n5:cpu,cpuacct:/a/b\n0::/\n',
+        { 'cpu/a/b/cpu.cfs_quota_us': '300000\n', 'cpu/a/b/cpu.cfs_period_us': '100000\n' }, 3],
+    ['1:cpu:/a/b\n', { 'cpu/a/cpu.cfs_quota_us': '100000\n', 'cpu/a/cpu.cfs_period_us': '50000\n',
+        'cpu/a/b/cpu.cfs_quota_us': '-1\n', 'cpu/a/b/cpu.cfs_period_us': '100000\n' }, 2],
+    ['1:cpu:/docker/1234\n', { 'cpu/cpu.cfs_quota_us': '100000\n', 'cpu/cpu.cfs_period_us': '100000\n' }, 1],
+    ['4:memory:/a\n', { 'cpu/a/cpu.cfs_quota_us': '100000\n', 'cpu/a/cpu.cfs_period_us': '100000\n' }, Infinity],
+    ['', {}, Infinity],
+];
+
+test('the quota of a process is the lowest of those of the cgroups above it', async () => {
+    const { processorsOfQuota } = await import(new URL('quota.js', import.meta.resolve('proved-argon2')));
+    for (const [own, quotas, expected] of QUOTAS) {
+        const files = new Map(Object.entries(quotas).map(([name, text]) => [`/sys/fs/cgroup/${name}`, text]));
+        const read = (file) => (file === '/proc/self/cgroup' ? own : files.get(file) ?? '');
+        assert.equal(processorsOfQuota(read), expected, `${own} ${JSON.stringify(quotas)}`);
+    }
+});
+
+for (const [quota, expected] of [['50000 100000', 1], ['300000 100000', 3], ['max 100000', 9]]) {
+    test(`a process with the quota ${quota} computes that many hashes at a time by default`, async () => {
+        const program = `import fs from 'node:fs';
+            import os from 'node:os';
+            const files = { '/proc/self/cgroup': '0::/', '/sys/fs/cgroup/cpu.max': '${quota}' };
+            const { readFileSync } = fs;
+            fs.readFileSync = (name, ...others) => files[name] ?? readFileSync(name, ...others);
+            os.availableParallelism = () => 9;
+            const { Line } = await import('proved-argon2');
+            console.log(new Line({ memoryCost: 8 }).concurrency);`;
+        const words = ['--input-type=module', '--eval', program];
+        const { stdout } = await promisify(execFile)(process.execPath, words, { cwd: import.meta.dirname });
+        assert.equal(Number(stdout), expected);
+    });
+}
 
 test('wrong options of a line, and lines of another type, are rejected', async () => {
     for (const [options, expected] of [

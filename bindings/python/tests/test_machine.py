@@ -53,6 +53,34 @@ def test_the_memory_is_limited_by_each_cgroup_above_the_process(cgroups, own, li
     assert _machine.memory() == expected
 
 
+@pytest.mark.parametrize("own, files, expected", [
+    # Version 2: a container with one processor, a unit of systemd with CPUQuota, and a quota of the slice above it.
+    ("0::/\n", {"cpu.max": "100000 100000"}, 1),
+    ("0::/system.slice/it.service\n", {"system.slice/it.service/cpu.max": "150000 50000"}, 3),
+    ("0::/system.slice/it.service\n", {"system.slice/cpu.max": "200000 100000",
+                                       "system.slice/it.service/cpu.max": "max 100000"}, 2),
+    ("0::/system.slice/it.service\n", {"system.slice/other.service/cpu.max": "100000 100000"}, 8),
+    # Parts of a processor, no quota, and a quota of more processors than there are.
+    ("0::/\n", {"cpu.max": "299999 100000"}, 2),
+    ("0::/\n", {"cpu.max": "10000 100000"}, 1),
+    ("0::/\n", {"cpu.max": "max 100000"}, 8),
+    ("0::/\n", {"cpu.max": "6400000 100000"}, 8),
+    # Version 1: a cgroup, a quota of the one above it, no quota, and a container, in which the path is the host's.
+    ("5:cpu,cpuacct:/a/b\n", {"cpu/a/b/cpu.cfs_quota_us": 300000, "cpu/a/b/cpu.cfs_period_us": 100000}, 3),
+    ("1:cpu:/a/b\n", {"cpu/a/cpu.cfs_quota_us": 100000, "cpu/a/cpu.cfs_period_us": 50000,
+                      "cpu/a/b/cpu.cfs_quota_us": -1, "cpu/a/b/cpu.cfs_period_us": 100000}, 2),
+    ("1:cpu:/docker/1234\n", {"cpu/cpu.cfs_quota_us": 100000, "cpu/cpu.cfs_period_us": 100000}, 1),
+    ("1:cpu:/a\n", {"cpu/a/cpu.cfs_quota_us": 100000}, 8),
+    ("4:memory:/a\n", {"cpu/a/cpu.cfs_quota_us": 100000, "cpu/a/cpu.cfs_period_us": 100000}, 8),
+    (None, {}, 8),
+])
+def test_the_processors_are_limited_by_each_quota_above_the_process(cgroups, own, files, expected):
+    cgroups(own, files)
+    with mock.patch("os.sched_getaffinity", return_value=range(8)):
+        assert _machine.processors() == expected
+        assert AsyncPasswordHasher(PasswordHasher(memory_cost=64, parallelism=1)).concurrency == expected
+
+
 @pytest.mark.parametrize("limit, expected", [("max", 8), (GIB, 4), (GIB // 4, 1), (1, 1)])
 def test_the_default_concurrency_follows_the_cgroup(cgroups, limit, expected):
     cgroups("0::/system.slice/it.service\n", {"system.slice/it.service/memory.max": limit})
