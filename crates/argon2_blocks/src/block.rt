@@ -2,6 +2,7 @@
 
 mod kernel;
 mod lanes;
+mod parts;
 
 ghost use Rattle.std.specs.Prelude.{◌≡◌, ◌<◌, ◌↔◌, ⊤, IsTrue, ℕ, List, Some, nat_eq, slice_index};
 ghost use Rattle.std.specs.Cmp.Lexicographic.{nat_list_eq_equiv, pointwise};
@@ -13,6 +14,7 @@ use crate::blake2b::{read_words, wipe, write_words};
 use crate::common::{BLOCK_SIZE, QWORDS_IN_BLOCK};
 pub use kernel::fill_block;
 pub use lanes::permute_lanes;
+pub use parts::first_and_others;
 use std::alloc::AllocError;
 use std::fmt;
 use std::marker::Model;

@@ -10,8 +10,7 @@ ghost use Rattle.argon2_standard.specs.Standard.Setting.{memory_blocks};
 ghost use Rattle.argon2_standard.specs.Standard.Tag.{last_blocks, tag_from, tag_of};
 
 use crate::fill::{write_first_block, write_tag};
-use argon2_blocks::basics::split_at_mut;
-use argon2_blocks::block::Block;
+use argon2_blocks::block::{Block, first_and_others};
 use argon2_blocks::common::SYNC_POINTS;
 use argon2_memory::job::{Job, facts_of_context, facts_of_job, numbered_job, slice_count};
 use argon2_memory::segment::fill_caller_segment;
@@ -50,8 +49,8 @@ fn begin_lane(job: &Job, lane: u32, slice: &mut [Block])
         → blocks_of_lane job.now.setting slice.new l ≡ blocks_of_lane job.now.setting slice.old l }
 {
     let length = job.segment_length() as usize;
-    let (_before, rest) = split_at_mut(slice, place_of_lane(job, lane));
-    let (own, _after) = split_at_mut(rest, length);
+    let (_before, rest) = first_and_others(slice, place_of_lane(job, lane));
+    let (own, _after) = first_and_others(rest, length);
     begin_segment(job, lane, own);
 }
 
@@ -88,8 +87,8 @@ fn fill_lane(
         → blocks_of_lane job.now.setting slice.new l ≡ blocks_of_lane job.now.setting slice.old l }
 {
     let length = job.segment_length() as usize;
-    let (_before, rest) = split_at_mut(slice, place_of_lane(job, lane));
-    let (own, _after) = split_at_mut(rest, length);
+    let (_before, rest) = first_and_others(slice, place_of_lane(job, lane));
+    let (own, _after) = first_and_others(rest, length);
     fill_caller_segment(job, lane, first, second, third, own);
 }
 
@@ -252,9 +251,9 @@ pub fn hash_job_over_with<F: SliceFilling>(
 {
     facts_of_job(job);
     let length = blocks.len() / SYNC_POINTS as usize;
-    let (first, rest) = split_at_mut(blocks, length);
-    let (second, rest) = split_at_mut(rest, length);
-    let (third, fourth) = split_at_mut(rest, length);
+    let (first, others) = first_and_others(blocks, length);
+    let (second, others) = first_and_others(others, length);
+    let (third, fourth) = first_and_others(others, length);
     begin_slice(job, first);
     fill_caller_slices(filling, job, first, second, third, fourth);
     finalize_slice(job, fourth, out);

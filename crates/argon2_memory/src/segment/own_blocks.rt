@@ -7,8 +7,7 @@ ghost use Rattle.argon2_blocks.specs.Standard.Block.{zero_block};
 ghost use Rattle.argon2_memory.specs.Views.Segments.{wiped_segment, zero_segment, with_block, IsMadeInPart, with_zeros, IsBefore, source_block};
 ghost use Rattle.argon2_standard.specs.Standard.Recurrence.{made_block};
 
-use argon2_blocks::basics::split_at_mut;
-use argon2_blocks::block::{Block, fill_block};
+use argon2_blocks::block::{Block, fill_block, first_and_others};
 use std::alloc::{AllocError, Global};
 use std::marker::Model;
 
@@ -96,11 +95,11 @@ fn write_among(
     ensures counted { tally.new ≡ (tally.old + 1) % 2 ^ 64 }
 {
     // The sources come before the index, so they can be read while it is written, without a copy.
-    let (before, rest) = split_at_mut(blocks, index);
+    let (before, others) = first_and_others(blocks, index);
     fill_block(
         named_among(before, prev),
         named_among(before, reference),
-        &mut rest[0],
+        &mut others[0],
         with_xor,
     );
     *tally = tally.wrapping_add(1);

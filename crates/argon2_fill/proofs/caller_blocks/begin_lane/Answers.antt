@@ -5,9 +5,9 @@ use Rattle.argon2_fill.proofs.caller_blocks.begin_lane.Goals as goal
 pub returns-clause-others : goal.returns-clause-others
 returns-clause-others c =
     let q = c.requires in
-    let cut = c.split_at_mut-before in
-    let part = c.split_at_mut-own in
+    let cut = c.first_and_others-before in
+    let part = c.first_and_others-own in
     let len = c.segment_length-length.ensures.value in
     others-stay c.args.job.now.setting c.args.slice.now c.args.lane q.slice_fits q.lane_fits c.begin_segment.new.own
-    (omega (arith, part.ensures.front_len, len)) cut.result.0.now cut.result.1.now part.result.1.now c.place_of_lane.result
-    c.segment_length-length.result cut.ensures.front cut.ensures.back part.ensures.back c.place_of_lane.ensures.value len
+    (omega (arith, part.ensures.first_count, len)) cut.result.0.now cut.result.1.now part.result.1.now c.place_of_lane.result
+    c.segment_length-length.result cut.ensures.first cut.ensures.others part.ensures.others c.place_of_lane.ensures.value len
