@@ -153,15 +153,27 @@ static int is_command(int count, char **word)
 
 /* ---- the streams */
 
+/* Makes room for this many bytes of the password, and clears the old place, which realloc would not do. */
+static int make_room(size_t capacity)
+{
+    uint8_t *const longer = malloc(capacity);
+    if (longer == NULL) return 0;
+    if (password != NULL) {
+        memcpy(longer, password, password_len);
+        explicit_bzero(password, password_len);
+        free(password);
+    }
+    password = longer;
+    return 1;
+}
+
 /* Reads standard input up to its end, and at most most_read bytes. */
 static int read_password(void)
 {
     for (size_t capacity = 0; password_len < most_read;) {
         if (password_len == capacity) {
             capacity = capacity == 0 ? 4096 : capacity < most_read / 2 ? 2 * capacity : most_read;
-            uint8_t *const longer = realloc(password, capacity);
-            if (longer == NULL) return refuse(PROVED_ARGON2_OUT_OF_MEMORY);
-            password = longer;
+            if (!make_room(capacity)) return refuse(PROVED_ARGON2_OUT_OF_MEMORY);
         }
         const ssize_t got = read(STDIN_FILENO, password + password_len, capacity - password_len);
         if (got == 0) return TRUE;
@@ -172,10 +184,17 @@ static int read_password(void)
     return command->is_limited ? refuse(PROVED_ARGON2_PWD_TOO_LONG) : TRUE;
 }
 
+/* Whether all output was written. A write may succeed after an earlier one has failed, so the last one is not enough. */
+static int is_written(void)
+{
+    return fflush(stdout) == 0 && !ferror(stdout);
+}
+
 static int answer(uint32_t code, uint32_t yes, uint32_t no)
 {
     if (code != yes && code != no) return refuse(code);
-    return puts(code == yes ? "true" : "false") < 0 || fflush(stdout) != 0 ? STREAM : code == yes ? TRUE : FALSE;
+    puts(code == yes ? "true" : "false");
+    return !is_written() ? STREAM : code == yes ? TRUE : FALSE;
 }
 
 /* The tag and the encoded hash, of one computation. Invalid settings are rejected before memory is allocated. */
@@ -200,7 +219,9 @@ static int hash(char *word, const proved_argon2_limits *most)
     code = code ? code : proved_argon2_encode(salt, salt_len, &settings, tag, tag_len, text, text_len);
     for (size_t i = 0; i < tag_len && code == PROVED_ARGON2_OK; i++)
         printf("%02x", tag[i]);
-    return code ? refuse(code) : printf("\n%s\n", text) < 0 || fflush(stdout) != 0 ? STREAM : TRUE;
+    if (code != PROVED_ARGON2_OK) return refuse(code);
+    printf("\n%s\n", text);
+    return is_written() ? TRUE : STREAM;
 }
 
 /* Whether the password is that of an encoded hash. */

@@ -29,7 +29,7 @@ from commands import (  # noqa: F401
     piped,
     verifies,
 )
-from running import MACHINE, VERSION
+from running import MACHINE, VERSION, build_preloaded, needs
 
 SHELL = ROOT / "bindings/shell"
 TUNINGS = [line.split() for line in (ROOT / "bindings/tests/tunings.txt").read_text().splitlines() if line[0] != "#"]
@@ -78,6 +78,28 @@ def test_a_full_output_has_status_4(words):
     with open("/dev/full", "wb") as full:
         done = subprocess.run([*COMMAND, *words], input=b"password", stdout=full, stderr=subprocess.PIPE, timeout=600)
     assert done.returncode == 4 and (words != HASH or done.stderr == b"")
+
+
+@pytest.fixture
+def in_c(installed):
+    """The program in C, which the installed script starts."""
+    return str(installed / "libexec/proved-argon2" / MACHINE / "argon2_tool")
+
+
+@needs("strace")
+def test_a_write_that_fails_once_has_status_4(in_c):
+    """The tag is longer than the C library's buffer, so that later writes succeed."""
+    long = [*HASH[:6], "6000", *HASH[7:]]
+    faults = ["strace", "-qq", "-o", "/dev/null", "-e", "trace=write", "-e", "inject=write:error=ENOSPC:when=1"]
+    for program in in_c, TOOL:
+        assert piped(long, b"password", [program])[0] == 0
+        assert piped(long, b"password", [*faults, program])[0] == 4
+
+
+def test_the_program_in_c_frees_no_block_with_the_password(in_c, tmp_path):
+    """It moves a long password to larger blocks while it reads."""
+    watched = {**os.environ, "LD_PRELOAD": str(build_preloaded(ROOT / "bindings/tests/freed.c", tmp_path))}
+    assert piped(["check", STORED], 4000 * b"correct horse", [in_c], env=watched)[:2] == (1, b"false\n")
 
 
 @pytest.fixture
