@@ -44,7 +44,7 @@ func Verify(encoded string, password []byte) (matches bool, err error) {
 // store. If the new hash fails, matches is still true, and updated is empty.
 func VerifyAndUpdate(encoded string, password []byte, settings Settings) (matches bool, updated string, err error) {
 	r := run{settings: settings, limits: LimitsFor(settings)}
-	return r.verifyAndUpdate(encoded, password, settings.Secret, false)
+	return r.verifyAndUpdate(encoded, password, nil)
 }
 
 // VerifyUnknown is for a login whose user does not exist. It takes as long as verifying a hash with these settings, and
@@ -112,16 +112,17 @@ func (r run) verify(encoded string, password []byte) (bool, error) {
 	return err == nil, err
 }
 
-// verifyAndUpdate verifies with this secret. It computes a new hash with the settings if the stored hash needs one or
-// if isOld is true, as it is for an old pepper.
-func (r run) verifyAndUpdate(encoded string, password, secret []byte, isOld bool) (
-	matches bool, updated string, err error) {
-	old := r
-	old.settings.Secret = secret
-	if matches, err = old.verify(encoded, password); !matches {
+// verifyAndUpdate verifies with an old pepper, if the stored hash has one. It computes a new hash with the settings if
+// the stored hash has an old pepper or other settings.
+func (r run) verifyAndUpdate(encoded string, password []byte, old *Pepper) (matches bool, updated string, err error) {
+	verifier := r
+	if old != nil {
+		verifier.settings.Secret = old.Key
+	}
+	if matches, err = verifier.verify(encoded, password); !matches {
 		return false, "", err
 	}
-	if needs, err := NeedsRehash(encoded, r.settings); needs || isOld || err != nil {
+	if needs, err := NeedsRehash(encoded, r.settings); needs || old != nil || err != nil {
 		updated, _ = r.hash(password)
 	}
 	return true, updated, nil

@@ -118,6 +118,18 @@ func TestHashMakesNewSalts(t *testing.T) {
 	}
 }
 
+// TestNoByteOfALongPasswordIsLeftOut changes, removes and adds the last byte, for even and odd lengths.
+func TestNoByteOfALongPasswordIsLeftOut(t *testing.T) {
+	for _, length := range []int{4095, 4096, 4097, 5001, 65537} {
+		pwd := bytes.Repeat([]byte("p"), length)
+		encoded := must(Hash(pwd, small()))
+		pwd[length-1] = 'q'
+		if must(Verify(encoded, pwd)) || must(Verify(encoded, pwd[:length-1])) || must(Verify(encoded, append(pwd, 'p'))) {
+			t.Error(length, "bytes: the end of the password has no effect")
+		}
+	}
+}
+
 // TestEveryErrorIsReported passes invalid settings to NewHasher and to calls that hash, and invalid strings to others.
 func TestEveryErrorIsReported(t *testing.T) {
 	encoded := must(Hash(password, small()))
@@ -164,7 +176,8 @@ func TestNeedsRehashComparesEverySetting(t *testing.T) {
 	for i, change := range []func(*Settings){
 		func(s *Settings) { s.Variant = I }, func(s *Settings) { s.Version = Version10 },
 		func(s *Settings) { s.Memory++ }, func(s *Settings) { s.Time++ }, func(s *Settings) { s.Lanes++ },
-		func(s *Settings) { s.SaltLength++ }, func(s *Settings) { s.HashLength++ },
+		func(s *Settings) { s.SaltLength++ }, func(s *Settings) { s.SaltLength-- },
+		func(s *Settings) { s.HashLength++ }, func(s *Settings) { s.HashLength-- },
 	} {
 		today := small(change)
 		matches, updated, err := VerifyAndUpdate(encoded, password, today)

@@ -40,6 +40,8 @@ const (
 var (
 	// ErrBusy means that as many callers compute and wait as the [Hasher] allows: answer with HTTP status 503.
 	ErrBusy = errors.New("argon2: too many hashes are computed at a time")
+	// ErrNoHasher means that [NewHasher] or [NewPeppers] did not make the [Hasher] or the [Peppers]: it is a zero value.
+	ErrNoHasher = errors.New("argon2: the Hasher or Peppers is a zero value")
 	// ErrUnknownPepper means that no pepper has the ID of a stored hash.
 	ErrUnknownPepper = errors.New("argon2: there is no pepper with this ID")
 	// ErrInvalidPeppers means that there is no pepper, an ID or a key is empty, or two peppers have the same ID.

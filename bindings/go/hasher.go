@@ -14,7 +14,7 @@ import (
 const idle = 10 * time.Second
 
 // Hasher limits how many hashes are computed at a time, and how many callers wait for that. Make one for the whole
-// service. Its methods can be called by any goroutines.
+// service. Its methods can be called by any goroutines. Those of a zero value return [ErrNoHasher].
 //
 // A caller waits in a queue for its turn. If its context ends, it leaves the queue, or its hash stops after the
 // current slice (a quarter of a pass), and the method returns the error of the context. If no more callers may wait,
@@ -79,13 +79,13 @@ func (h *Hasher) Verify(ctx context.Context, encoded string, password []byte) (m
 // new hash is computed, the password matches all the same, and updated is empty.
 func (h *Hasher) VerifyAndUpdate(ctx context.Context, encoded string, password []byte) (
 	matches bool, updated string, err error) {
-	return h.verifyAndUpdate(ctx, encoded, password, h.settings.Secret, false)
+	return h.verifyAndUpdate(ctx, encoded, password, nil)
 }
 
-func (h *Hasher) verifyAndUpdate(ctx context.Context, encoded string, password, secret []byte, isOld bool) (
+func (h *Hasher) verifyAndUpdate(ctx context.Context, encoded string, password []byte, old *Pepper) (
 	matches bool, updated string, err error) {
 	matches, err = enqueue(ctx, h, func(r run) (bool, error) {
-		matches, updated, err = r.verifyAndUpdate(encoded, password, secret, isOld)
+		matches, updated, err = r.verifyAndUpdate(encoded, password, old)
 		return matches, err
 	})
 	return matches, updated, err
@@ -99,11 +99,18 @@ func (h *Hasher) VerifyUnknown(ctx context.Context, password []byte) (matches bo
 // Format prints the settings without the secret, for a Hasher and for a pointer to one.
 func (h Hasher) Format(state fmt.State, verb rune) {
 	io.WriteString(state, "argon2.Hasher")
+	if h.settings == nil {
+		io.WriteString(state, "{}")
+		return
+	}
 	h.settings.Format(state, verb)
 }
 
 // enqueue waits for a place in the queue, and makes a call in it. The end of the context stops both.
 func enqueue[T any](ctx context.Context, h *Hasher, call func(run) (T, error)) (value T, err error) {
+	if h == nil || h.queue == nil {
+		return value, ErrNoHasher
+	}
 	buffer, err := h.queue.enter(ctx)
 	if err != nil {
 		return value, err

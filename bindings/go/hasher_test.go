@@ -3,8 +3,10 @@ package argon2
 import (
 	"bytes"
 	"context"
+	"fmt"
 	"math"
 	"runtime"
+	"strings"
 	"sync"
 	"testing"
 	"time"
@@ -79,6 +81,30 @@ func TestHasherUsesItsSettingsAndLimits(t *testing.T) {
 		if _, err := c.hasher.Verify(ctx, c.encoded, password); err != c.err {
 			t.Error(i, err)
 		}
+	}
+}
+
+// TestAZeroValueReturnsAnError uses a Hasher and Peppers that no function has made. Each call panicked once.
+func TestAZeroValueReturnsAnError(t *testing.T) {
+	h, p, encoded := new(Hasher), new(Peppers), must(Hash(password, small()))
+	for i, h := range []*Hasher{h, h.With(small()), h.Within(noLimits)} {
+		_, one := h.Hash(ctx, password)
+		_, two := h.Verify(ctx, encoded, password)
+		_, _, three := h.VerifyAndUpdate(ctx, encoded, password)
+		_, four := h.VerifyUnknown(ctx, password)
+		_, five := NewPeppers(h, Pepper{"2026", []byte("key")})
+		if one != ErrNoHasher || two != ErrNoHasher || three != ErrNoHasher || four != ErrNoHasher || five != ErrNoHasher {
+			t.Error(i, one, two, three, four, five)
+		}
+	}
+	_, one := p.Hash(ctx, password)
+	_, _, two := p.VerifyAndUpdate(ctx, Stored{"", encoded}, password)
+	_, three := p.VerifyUnknown(ctx, password)
+	if one != ErrNoHasher || two != ErrUnknownPepper || three != ErrNoHasher {
+		t.Error(one, two, three)
+	}
+	if shown := fmt.Sprint(*h, h, *p, p); strings.Contains(shown, "PANIC") || !strings.Contains(shown, "argon2.Hasher{}") {
+		t.Error(shown)
 	}
 }
 

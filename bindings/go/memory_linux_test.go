@@ -62,9 +62,11 @@ func TestDeniedMemoryIsAnError(t *testing.T) {
 	invalid := small(func(s *Settings) { s.Time, s.SaltLength = 0, math.MaxUint32 })
 	_, one := Hash(password, invalid)
 	_, two := VerifyUnknown(password, invalid)
+	invalid.Memory, invalid.Lanes = leastMemory, 0
+	_, three := Tune(ctx, time.Minute, invalid)
 	must(0, syscall.Setrlimit(syscall.RLIMIT_AS, &before))
-	if one != ErrTimeTooSmall || two != ErrTimeTooSmall {
-		t.Error(one, two)
+	if one != ErrTimeTooSmall || two != ErrTimeTooSmall || three != ErrLanesTooFew {
+		t.Error(one, two, three)
 	}
 	for i, err := range errs {
 		if err != ErrOutOfMemory {

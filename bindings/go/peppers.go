@@ -45,6 +45,9 @@ func NewPeppers(hasher *Hasher, peppers ...Pepper) (*Peppers, error) {
 	if len(peppers) == 0 {
 		return nil, ErrInvalidPeppers
 	}
+	if hasher == nil || hasher.queue == nil {
+		return nil, ErrNoHasher
+	}
 	settings := *hasher.settings
 	settings.Secret = own[0].Key
 	return &Peppers{&Hasher{hasher.queue, &settings, hasher.limits}, own}, nil
@@ -73,7 +76,11 @@ func (p *Peppers) VerifyAndUpdate(ctx context.Context, stored Stored, password [
 	matches bool, updated *Stored, err error) {
 	for i, pepper := range p.peppers {
 		if pepper.ID == stored.PepperID {
-			matches, encoded, err := p.hasher.verifyAndUpdate(ctx, stored.Encoded, password, pepper.Key, i > 0)
+			old := pepper
+			if i == 0 {
+				old = nil
+			}
+			matches, encoded, err := p.hasher.verifyAndUpdate(ctx, stored.Encoded, password, old)
 			if encoded != "" {
 				updated = &Stored{p.peppers[0].ID, encoded}
 			}

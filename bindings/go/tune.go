@@ -31,8 +31,8 @@ func Tune(ctx context.Context, within time.Duration, most Settings) (Tuning, err
 	return tune(within, most, func(s Settings) (least time.Duration, err error) {
 		for round := 0; round < rounds && err == nil; round++ {
 			begun := time.Now()
-			_, err = enqueue(ctx, hasher, func(r run) ([]byte, error) {
-				return run{settings: s, stop: r.stop}.compute(nil, make([]byte, s.SaltLength), false)
+			_, err = enqueue(ctx, hasher, func(r run) (bool, error) {
+				return run{settings: s, stop: r.stop}.verifyUnknown(nil)
 			})
 			if took := time.Since(begun); round == 0 || took < least {
 				least = took

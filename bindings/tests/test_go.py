@@ -28,7 +28,8 @@ const (
 var useSSE4 = true
 
 func deriveKey(v int, pwd, salt, secret, data []byte, time, memory uint32, threads uint8, length uint32) []byte {
-    s := Settings{Variant(v), Version, memory, time, uint32(threads), 0, 0, length, secret, data}
+    s := Settings{Variant: Variant(v), Version: Version, Memory: memory, Time: time, Lanes: uint32(threads),
+        HashLength: length, Secret: secret, Data: data}
     tag, err := HashRaw(pwd, salt, s)
     if err != nil {
         panic(err)
