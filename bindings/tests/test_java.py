@@ -5,7 +5,7 @@ import zipfile
 from pathlib import Path
 
 import pytest
-from running import CC, CODES, MACHINE, NUMBERS, TOP, built, first_lines, needs, run, start
+from running import CC, CODES, MACHINE, NUMBERS, TOP, built, first_lines, in_namespace, needs, run, start
 
 JAVA, TESTS = TOP / "bindings/java", TOP / "bindings/tests"
 LIBRARIES = [f"/usr/share/java/{name}.jar" for name in ("junit-platform-console-standalone", "bcprov")]
@@ -277,3 +277,29 @@ def test_the_library_can_be_named_and_a_missing_one_is_an_error(jar, tmp_path):
     for wrong in ("-Dproved.argon2.library=/nowhere.so", "-Dos.arch=sparc", "-Djava.io.tmpdir=/nowhere"):
         done = start("java", wrong, "-cp", jar, program)
         assert done.returncode == 1 and "UnsatisfiedLinkError" in done.stderr, done.stderr
+
+
+# Runs a command with a folder on which nothing can be written, or from which nothing can be loaded.
+MOUNTED = """mount -t tmpfs -o "$1" none "$2" && shift 2 && exec "$@"
+"""
+
+
+@needs("unshare")
+@pytest.mark.parametrize("option", ["ro", "noexec"])
+def test_a_folder_that_cannot_be_used_is_an_error_that_names_the_remedies(jar, tmp_path, option):
+    """The message says why, and each of the two properties that it names helps."""
+    program, mounted, other = write_program(tmp_path), tmp_path / "mounted", tmp_path / "other"
+    mounted.mkdir()
+    other.mkdir()
+    with zipfile.ZipFile(jar) as packed:
+        library = packed.extract(f"proved/argon2/native/linux-{MACHINE}.so", tmp_path)
+    words = in_namespace(MOUNTED, option, mounted, "java", f"-Djava.io.tmpdir={mounted}")
+    done = start(*words, "-cp", jar, program)
+    if "mount: " in done.stderr:
+        pytest.skip("there is no right to mount")
+    message = next(line for line in done.stderr.splitlines() if "UnsatisfiedLinkError" in line)
+    named = re.findall(r"-D([a-z.0-9]+)", message)
+    assert done.returncode == 1 and "read-only or mounted noexec" in message, done.stderr
+    assert named == ["java.io.tmpdir", "proved.argon2.library"]
+    for name, value in zip(named, (other, library)):
+        assert run(*words, f"-D{name}={value}", "-cp", jar, program) == "false\n"

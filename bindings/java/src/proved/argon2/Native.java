@@ -22,6 +22,11 @@ final class Native {
      */
     private static final String PROPERTY = "proved.argon2.library";
 
+    /** What to do if a library cannot be loaded, and why it cannot. */
+    private static final String REMEDIES = "%s cannot be loaded: %s. If temporary folders are read-only or mounted "
+        + "noexec, name another one with -Djava.io.tmpdir=FOLDER, or unpack the library from the jar, or build it, and "
+        + "name it with -D" + PROPERTY + "=FILE";
+
     static {
         String named = System.getProperty(PROPERTY);
         if (named == null) {
@@ -60,27 +65,31 @@ final class Native {
         return thread instanceof HashQueue.Worker worker ? worker.isStopped() : thread.isInterrupted();
     }
 
-    /** Loads the library of the jar from a private folder, which is deleted if the system allows that. */
+    /** Loads the library of the jar. */
     private static void loadOwn() {
         String system = System.getProperty("os.name").toLowerCase(Locale.ROOT);
         String machine = System.getProperty("os.arch").replace("amd64", "x86_64");
         String file = system.startsWith("windows") ? "windows-" + machine + ".dll" : system + "-" + machine + ".so";
         try (InputStream library = Native.class.getResourceAsStream("native/" + file)) {
             if (library == null) {
-                throw new UnsatisfiedLinkError("the jar has no " + file + "; " + PROPERTY + " can name one");
+                throw new UnsatisfiedLinkError("the jar has no such library");
             }
-            // (Java makes the folder with the mode 0700)
-            Path folder = Files.createTempDirectory("proved-argon2-");
-            Path copy = folder.resolve(file);
-            try {
-                Files.copy(library, copy);
-                System.load(copy.toString());
-            } finally {
-                copy.toFile().delete(); // (Windows keeps a library that is loaded)
-                folder.toFile().delete();
-            }
-        } catch (IOException error) {
-            throw new UnsatisfiedLinkError(file + " cannot be copied to a temporary folder: " + error);
+            loadCopy(library, file);
+        } catch (IOException | UnsatisfiedLinkError error) {
+            throw (Error) new UnsatisfiedLinkError(REMEDIES.formatted(file, error.getMessage())).initCause(error);
+        }
+    }
+
+    /** Loads a library from a private folder, which is deleted if the system allows that. */
+    private static void loadCopy(InputStream library, String file) throws IOException {
+        Path folder = Files.createTempDirectory("proved-argon2-"); // (Java makes it with the mode 0700)
+        Path copy = folder.resolve(file);
+        try {
+            Files.copy(library, copy);
+            System.load(copy.toString());
+        } finally {
+            copy.toFile().delete(); // (Windows keeps a library that is loaded)
+            folder.toFile().delete();
         }
     }
 }
