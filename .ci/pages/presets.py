@@ -22,13 +22,12 @@ TYPES = {
     'void *': ('*mut c_void', 'null_mut()', 'ctypes.c_void_p'),
     'const proved_argon2_limits *': ('*const Limits', 'null()', 'ctypes.POINTER(NumberLimits)'),
     'const proved_argon2_settings *': ('*const Settings', 'null()', 'ctypes.POINTER(Settings)'),
-    'proved_argon2_run *': ('*const c_void', 'null()', 'ctypes.c_void_p'),
     'proved_argon2_progress *': ('Option<extern "C" fn(*mut c_void, u64, u64) -> c_int>', 'None', '_Progress'),
 }
 # The errors from 64 on that Go's calls return.
 OTHERS_OF_GO = 'too_costly', 'no_random_bytes', 'old_processor'
-# What errors mean in Go, which passes the library no thread pool, and no buffer that is too small.
-WORDS_OF_GO = {'out_of_memory': 'memory could not be allocated', 'worker_refused': 'never returned'}
+# What errors mean in Go, which passes the library no buffer that is too small.
+WORDS_OF_GO = {'out_of_memory': 'memory could not be allocated'}
 # Patterns for a placeholder's value, some by its name, and for the blank between words.
 VALUE, BLANK = r'\d(?:[\d_,]*\d)?(?: [KMG]iB)?', r'\s+(?:(?:///|//|#|\*|--) )?'
 OF_PLACEHOLDER = {

@@ -27,8 +27,8 @@ static uint32_t checking, answer, reading, shortage, kib;
 enum { COMPUTING, JUDGING, TELLING, KINDS };
 static char passed[KINDS][400];
 
-/* The last call with options, which must name no pool: how many threads it asked for; how many bytes of memory it was
- * passed, or -1; and what its progress callback returned, or -1 without a callback. */
+/* The last call with options, which must have this version's size: how many threads it asked for; how many bytes of
+ * memory it was passed, or -1; and what its progress callback returned, or -1 without a callback. */
 static uint32_t threads;
 static int64_t memory_len, progress_result;
 
@@ -60,9 +60,8 @@ const char *seen(void)
 
 static void take(const proved_argon2_options *with)
 {
-    const int has_pool = with->run != NULL || with->pool != NULL;
     progress_result = with->progress == NULL ? -1 : with->progress(with->arg, 1, 12);
-    threads = with->size != sizeof *with || has_pool ? UINT32_MAX - 1 : with->threads;
+    threads = with->size != sizeof *with ? UINT32_MAX - 1 : with->threads;
     memory_len = with->memory != NULL && (uintptr_t)with->memory % 8 == 0 ? (int64_t)with->memory_len
         : with->memory != NULL || with->memory_len != 0                   ? INT64_MIN
                                                                           : -1;

@@ -17,7 +17,7 @@
  * error is reported, in this order: wrong options, an unknown variant, an unknown version, the encoded hash, its
  * limits, settings in the order of the MIN and MAX constants below, the buffer's length, and memory. A call that makes
  * a salt does so before it checks any of these. No call prints, ends the process or changes errno. A call waits only
- * for its own threads or your pool and, if it makes a salt, for the system's random bytes. It reads only its arguments.
+ * for its own threads and, if it makes a salt, for the system's random bytes. It reads only its arguments.
  * The first call of a process also finds out which of the library's builds the processor can run, and reads the
  * environment variable PROVED_ARGON2_CPU, with which tests choose a build. If none can run, each call that can fail
  * returns PROVED_ARGON2_OLD_PROCESSOR before it reads variant, version or encoded hash, and calls that return lengths,
@@ -112,7 +112,7 @@ enum proved_argon2_code {
     PROVED_ARGON2_INCORRECT_VERSION = 18, /* no version has this number */
     PROVED_ARGON2_DECODING_FAIL = 19,     /* the string is not an encoded hash */
     PROVED_ARGON2_OUT_OF_MEMORY = 20,     /* memory could not be allocated, or the buffer of the options is too small */
-    PROVED_ARGON2_WORKER_REFUSED = 21,    /* the thread pool of the options did not run its tasks */
+    PROVED_ARGON2_WORKER_REFUSED = 21,    /* never returned */
     PROVED_ARGON2_MISMATCH = 64,          /* the password does not match */
     PROVED_ARGON2_WRONG_LENGTH = 65,      /* a buffer has the wrong length, or the options have an unknown size */
     PROVED_ARGON2_NOT_ASCII = 66,         /* the string has a byte above 127 */

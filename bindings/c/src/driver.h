@@ -44,11 +44,10 @@ struct call {
     block *blocks;
     size_t slice; /* how many blocks each of the four slices has */
     worker *workers;
-    uint32_t tasks;        /* how many workers there are */
-    team *team;            /* the call's own threads: one for each worker from 1 on, unless it was denied */
-    uint64_t step;         /* step 0 writes the first blocks, and step n + 1 fills slice number n, over all passes */
-    atomic_bool is_over;   /* no further step follows */
-    atomic_bool is_astray; /* a pool ran a task that does not exist, or ran one twice */
+    uint32_t tasks;      /* how many workers there are */
+    team *team;          /* the call's own threads: one for each worker from 1 on, unless it was denied */
+    uint64_t step;       /* step 0 writes the first blocks, and step n + 1 fills slice number n, over all passes */
+    atomic_bool is_over; /* no further step follows */
 };
 
 /* The size of the blocks of a job in bytes, which may be more than the address space has. */

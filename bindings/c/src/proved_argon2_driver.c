@@ -121,7 +121,7 @@ static uint32_t populate(const struct call *call, uint32_t number)
 }
 
 /* Claims a worker's part of a step. Exactly one thread succeeds, so that each part is taken once, even if threads are
- * late or a pool runs a task twice. Moves: Claims. */
+ * late. Moves: Claims. */
 static bool claim(struct call *call, uint64_t step, uint32_t number)
 {
     uint64_t before = 2 * step;
@@ -167,17 +167,6 @@ CLEARS_REGISTERS static void take_step(struct call *call, uint64_t step, uint32_
     }
     call->workers[number].code = code;
     call->workers[number].state = 2 * step + 2; /* Moves: Completes, Fails, Finishes. */
-}
-
-/* A task of a pool, which may run one twice, leave one out, or run one that does not exist. Moves: Runs, Strays. */
-static void run_task(void *arg, uint32_t number)
-{
-    struct call *const call = arg;
-    if (number < call->tasks && claim(call, call->step, number)) {
-        take_step(call, call->step, number);
-    } else {
-        call->is_astray = 1;
-    }
 }
 
 /* Whether a worker's part of a step is so short that its thread may start too late; then others take it. If parts are
@@ -232,8 +221,8 @@ static void wake_team(struct call *call)
     }
 }
 
-/* Takes a step by the call's own threads. The caller's thread takes the part of worker 0, and those of the last workers
- * if the system denied them a thread. Then it waits for each part that another thread took. Moves: Begins, Counts. */
+/* Takes a step. The caller's thread takes the part of worker 0, and those of the last workers if the system denied
+ * them a thread. Then it waits for each part that another thread took. Moves: Begins, Counts. */
 static void run_team(struct call *call)
 {
     wake_team(call);
@@ -247,15 +236,10 @@ static void run_team(struct call *call)
 static uint32_t run_step(struct call *call, uint64_t slices)
 {
     const options *const with = &call->with;
-    bool is_refused = false;
-    if (with->run == NULL) {
-        run_team(call);
-    } else {
-        is_refused = with->run(with->pool, call->tasks, run_task, call) != 0;
-    }
-    uint32_t code = is_refused || call->is_astray ? PROVED_ARGON2_WORKER_REFUSED : PROVED_ARGON2_OK;
+    uint32_t code = PROVED_ARGON2_OK;
+    run_team(call);
     for (uint32_t i = 0; i < call->tasks && code == PROVED_ARGON2_OK; i++) {
-        code = call->workers[i].state == 2 * call->step + 2 ? call->workers[i].code : PROVED_ARGON2_WORKER_REFUSED;
+        code = call->workers[i].code;
     }
     const bool is_reported = code == PROVED_ARGON2_OK && call->step != 0 && with->progress != NULL;
     return is_reported && with->progress(with->arg, call->step, slices) != 0 ? PROVED_ARGON2_STOPPED : code;
@@ -270,8 +254,7 @@ static uint32_t fill(struct call *call)
     if (call->workers == NULL) {
         return PROVED_ARGON2_OUT_OF_MEMORY;
     }
-    call->team = call->tasks > 1 && call->with.run == NULL ? proved_driver_start_team(call->tasks - 1, follow, call)
-                                                           : NULL;
+    call->team = call->tasks > 1 ? proved_driver_start_team(call->tasks - 1, follow, call) : NULL;
     for (; call->step <= slices && code == PROVED_ARGON2_OK; call->step++) {
         code = run_step(call, slices);
     }
@@ -287,7 +270,7 @@ static uint32_t compute_over(struct call *call, const uint8_t *hash, uint8_t *ta
 {
     const block *const last = call->blocks + 3 * call->slice;
     const size_t all = 4 * call->slice, len = call->job.hash_length;
-    const bool is_alone = call->tasks == 1 && call->with.run == NULL && call->with.progress == NULL;
+    const bool is_alone = call->tasks == 1 && call->with.progress == NULL;
     const uint32_t code = is_alone ? populate(call, 0) : fill(call);
     if (code != PROVED_ARGON2_OK) {
         return code;
@@ -303,12 +286,12 @@ static uint32_t compute_over(struct call *call, const uint8_t *hash, uint8_t *ta
 }
 
 /* How many threads a call uses of those it may use. With little memory or work, more threads take longer to start and
- * wake than they save (docs/DECISIONS.md). A pool gets as many tasks as allowed. */
+ * wake than they save (docs/DECISIONS.md). */
 static uint32_t tasks_of(const struct call *call, uint64_t bytes)
 {
     const uint32_t most = call->with.threads < call->job.lanes ? call->with.threads : call->job.lanes;
     const bool is_paying = is_mapped(bytes) && bytes >= WORK_FOR_THREADS / call->job.passes;
-    return most > 1 && (is_paying || call->with.run != NULL) ? most : 1;
+    return most > 1 && is_paying ? most : 1;
 }
 
 static uint32_t memory_error(const struct call *call, uint64_t bytes)

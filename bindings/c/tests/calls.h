@@ -1,4 +1,4 @@
-/* For tests of the calls with options: their inputs, libargon2's tag, and simple pools. */
+/* For tests of the calls with options: their inputs, libargon2's tag, and a progress callback. */
 #ifndef CALLS_H
 #define CALLS_H
 
@@ -114,48 +114,11 @@ static inline bool peer(const struct call *call, uint8_t *out)
     return argon2_ctx(&context, (argon2_type)own.settings.variant) == ARGON2_OK;
 }
 
-/* A pool that runs the tasks one after another, in falling order. */
-static inline int backwards(void *pool, uint32_t tasks, void (*task)(void *, uint32_t), void *arg)
+/* A progress callback with which a call goes on. It computes in steps then, even in one thread. */
+static inline int goes_on(void *arg, uint64_t done, uint64_t all)
 {
-    (void)pool;
-    while (tasks > 0) {
-        task(arg, --tasks);
-    }
-    return 0;
-}
-
-/* Pools that return an error at one of their runs, or leave out a task. */
-static inline int fails_at(void *pool, uint32_t tasks, void (*task)(void *, uint32_t), void *arg)
-{
-    int *const left = pool;
-    return --*left == 0 ? -1 : backwards(NULL, tasks, task, arg);
-}
-
-static inline int forgets_at(void *pool, uint32_t tasks, void (*task)(void *, uint32_t), void *arg)
-{
-    int *const left = pool;
-    return backwards(NULL, --*left == 0 ? tasks - 1 : tasks, task, arg);
-}
-
-/* Pools that at one of their runs run a task twice, or a task that does not exist. */
-static inline int repeats_at(void *pool, uint32_t tasks, void (*task)(void *, uint32_t), void *arg)
-{
-    int *const left = pool;
-    backwards(NULL, tasks, task, arg);
-    if (--*left == 0) {
-        task(arg, tasks / 2);
-    }
-    return 0;
-}
-
-static inline int exceeds_at(void *pool, uint32_t tasks, void (*task)(void *, uint32_t), void *arg)
-{
-    int *const left = pool;
-    if (--*left == 0) {
-        task(arg, tasks);
-        task(arg, UINT32_MAX);
-    }
-    return backwards(NULL, tasks, task, arg);
+    (void)arg;
+    return done > all;
 }
 
 static inline proved_argon2_options by(uint32_t threads)

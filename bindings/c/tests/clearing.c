@@ -153,12 +153,12 @@ static void check_done(size_t name)
     for (size_t n = 0; n < memories_of(name) * 8; n++) {
         refuse_nothing();
         struct trial trial = trial_of(name, n / 8, n % 2 == 0 ? 1 : 4);
-        trial.with.run = n / 2 % 2 == 0 ? NULL : backwards;
+        trial.with.progress = n / 2 % 2 == 0 ? NULL : goes_on;
         trial.is_right = n / 4 % 2 == 0;
         const bool is_done = is_hashing(name) || (trial.is_right && name != OF_UNKNOWN);
         trial.expected = trial.or_else = is_done ? PROVED_ARGON2_OK : PROVED_ARGON2_MISMATCH;
         good = good && is_cleared(name, &trial);
-        n += name < WITH ? 0 : 3; /* (which has no threads and no pool) */
+        n += name < WITH ? 0 : 3; /* (which has no options) */
     }
     check_cleared(name, good, "it completes");
 }
@@ -198,22 +198,6 @@ static void check_requests(size_t name)
         good = good && is_cleared_at_requests(name, memory);
     }
     check_cleared(name, good, "memory is refused");
-}
-
-static void check_pools(size_t name)
-{
-    static proved_argon2_run *const pools[] = {fails_at, forgets_at, repeats_at, exceeds_at};
-    bool good = true;
-    for (int n = 0; n < MEMORIES * 9; n++) {
-        int left = n % 9 + 1;
-        refuse_nothing();
-        struct trial trial = trial_of(name, (size_t)n / 9, 4);
-        trial.with.run = pools[(n + n / 9) % 4];
-        trial.with.pool = &left;
-        trial.expected = trial.or_else = PROVED_ARGON2_WORKER_REFUSED;
-        good = good && is_cleared(name, &trial);
-    }
-    check_cleared(name, good, "a pool refuses");
 }
 
 static int stops_at(void *arg, uint64_t done, uint64_t all)
@@ -306,63 +290,18 @@ static bool has_handler(void)
 
 static int signals(void *arg, uint64_t done, uint64_t all)
 {
-    (void)arg;
-    return raise(SIGUSR1) != 0 || done > all;
-}
-
-/* A pool that raises a signal after each of its tasks. */
-static int signals_behind(void *pool, uint32_t tasks, void (*task)(void *, uint32_t), void *arg)
-{
-    (void)pool;
-    while (tasks > 0) {
-        task(arg, --tasks);
-        raise(SIGUSR1);
-    }
-    return 0;
-}
-
-/* A pool whose one thread runs all tasks: the caller's thread then takes none, and its registers keep what they held
- * before. */
-static void (*volatile task_of_pool)(void *, uint32_t);
-static void *volatile arg_of_pool;
-static atomic_uint tasks_of_pool;
-
-static void *run_tasks(void *is_over)
-{
-    while (!atomic_load((atomic_bool *)is_over)) {
-        for (uint32_t left = atomic_load(&tasks_of_pool); left > 0; left = atomic_fetch_sub(&tasks_of_pool, 1) - 1) {
-            task_of_pool(arg_of_pool, left - 1);
-        }
-    }
-    return NULL;
-}
-
-static int runs_elsewhere(void *pool, uint32_t tasks, void (*task)(void *, uint32_t), void *arg)
-{
-    (void)pool;
-    task_of_pool = task;
-    arg_of_pool = arg;
-    atomic_store(&tasks_of_pool, tasks);
-    while (atomic_load(&tasks_of_pool) > 0) {
-    }
-    return 0;
+    return raise(SIGUSR1) != 0 || goes_on(arg, done, all);
 }
 
 static void check_signals(size_t name)
 {
-    static proved_argon2_run *const pools[] = {NULL, signals_behind, runs_elsewhere};
-    atomic_bool is_over = false;
-    pthread_t thread;
-    bool good = has_handler() && __real_pthread_create(&thread, NULL, run_tasks, &is_over) == 0;
-    for (size_t n = 0; n < MEMORIES * 6; n++) {
+    bool good = has_handler();
+    for (size_t n = 0; n < MEMORIES * 2; n++) {
         refuse_nothing();
-        struct trial trial = trial_of(name, n / 6, n % 2 == 0 ? 1 : 4);
+        struct trial trial = trial_of(name, n / 2, n % 2 == 0 ? 1 : 4);
         trial.with.progress = signals;
-        trial.with.run = pools[n / 2 % 3];
         good = good && is_cleared(name, &trial);
     }
-    is_over = true;
-    good = __real_pthread_join(thread, NULL) == 0 && good;
     check_cleared(name, good, "signals use an alternate stack");
 }
 
@@ -448,21 +387,21 @@ static bool is_left_out_of_dumps(void)
     return is_left_out;
 }
 
-/* A pool that looks at the mapping each run. */
-static int looks_at_mapping(void *pool, uint32_t tasks, void (*task)(void *, uint32_t), void *arg)
+/* A progress callback that looks at the mapping. */
+static int looks_at_mapping(void *arg, uint64_t done, uint64_t all)
 {
-    bool *const good = pool;
+    bool *const good = arg;
     *good = is_left_out_of_dumps() && *good;
-    return backwards(NULL, tasks, task, arg);
+    return goes_on(NULL, done, all);
 }
 
 static int hashes_over_mapping(const void *arg)
 {
     bool good = true;
-    proved_argon2_options with = by(4);
+    proved_argon2_options with = by(1); /* (starting threads maps more) */
     (void)arg;
-    with.run = looks_at_mapping;
-    with.pool = &good;
+    with.progress = looks_at_mapping;
+    with.arg = &good;
     return hash_raw(&with, &calls[MAPPED], out) == PROVED_ARGON2_OK && good ? 0 : 1;
 }
 
@@ -519,7 +458,7 @@ static int check_all_late(void)
 int main(int argc, char **argv)
 {
     const bool is_few = argc > 1 && strcmp(argv[argc - 1], "few") == 0;
-    const int count = is_few ? 18 : 68;
+    const int count = is_few ? 18 : 62;
     check_nothing_before();
     if (argc > 1 && strcmp(argv[1], "late") == 0) {
         return check_all_late();
@@ -541,7 +480,6 @@ int main(int argc, char **argv)
         check_requests(name);
         if (name < WITH) {
             check_starts(name);
-            check_pools(name);
             check_stops(name);
             check_signals(name);
         }

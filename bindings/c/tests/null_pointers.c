@@ -184,23 +184,15 @@ static int stop(void *arg, uint64_t done, uint64_t all)
     return 1;
 }
 
-static int refuse(void *pool, uint32_t tasks, void (*task)(void *arg, uint32_t i), void *arg)
-{
-    (void)pool, (void)tasks, (void)task, (void)arg;
-    return 1;
-}
-
 static void check_order(void)
 {
     give_what_fits();
     spoil();
     check_code(password_hash_with(), PROVED_ARGON2_NO_RANDOM_BYTES, "random bytes come before the options");
     give_what_fits();
-    options = (proved_argon2_options){.size = sizeof options, .memory = blocks, .run = refuse, .progress = stop};
-    check_code(hash_raw_with(), PROVED_ARGON2_OUT_OF_MEMORY, "memory comes before the pool");
+    options = (proved_argon2_options){.size = sizeof options, .memory = blocks, .progress = stop};
+    check_code(hash_raw_with(), PROVED_ARGON2_OUT_OF_MEMORY, "memory comes before progress");
     options.memory_len = sizeof blocks;
-    check_code(hash_raw_with(), PROVED_ARGON2_WORKER_REFUSED, "the pool comes before progress");
-    options.run = NULL;
     check_code(hash_raw_with(), PROVED_ARGON2_STOPPED, "progress comes last");
 }
 
@@ -242,8 +234,8 @@ int main(void)
     check_order();
 #ifdef __x86_64__
     check_without_a_build();
-    return finish(234);
+    return finish(233);
 #else
-    return finish(193);
+    return finish(192);
 #endif
 }

@@ -201,19 +201,6 @@ static double time_of(const char *text, const proved_argon2_settings *settings)
     return least;
 }
 
-/* The most tasks that a pool got at once; it runs them one after another. */
-static uint32_t most_tasks;
-
-static int count_tasks(void *pool, uint32_t tasks, void (*task)(void *arg, uint32_t i), void *arg)
-{
-    (void)pool;
-    most_tasks = tasks > most_tasks ? tasks : most_tasks;
-    for (uint32_t i = 0; i < tasks; i++) {
-        task(arg, i);
-    }
-    return 0;
-}
-
 static void check_unknown(void)
 {
     const proved_argon2_settings settings = proved_argon2_owasp2();
@@ -231,11 +218,6 @@ static void check_unknown(void)
     const proved_argon2_settings long_tag = {PROVED_ARGON2_ID, PROVED_ARGON2_VERSION_13, 64, 1, 1, 1000};
     code = proved_argon2_password_verify_unknown(&with, &long_tag, "password", 8, NULL, 0);
     check_code(code, PROVED_ARGON2_MISMATCH, "an unknown user with a tag longer than the text of other calls");
-    const proved_argon2_settings many = {PROVED_ARGON2_ID, PROVED_ARGON2_VERSION_13, 65536, 1, 64, 32};
-    const proved_argon2_options by_pool = {.size = sizeof by_pool, .threads = 64, .run = count_tasks};
-    code = proved_argon2_password_verify_unknown(&by_pool, &many, "password", 8, NULL, 0);
-    check(code == PROVED_ARGON2_MISMATCH && most_tasks == PROVED_ARGON2_MAX_VERIFYING_THREADS,
-        "an unknown user has the threads of a verification");
     const proved_argon2_options stopped = {.size = sizeof stopped, .progress = stop};
     code = proved_argon2_password_verify_unknown(&stopped, &settings, "password", 8, NULL, 0);
     check_code(code, PROVED_ARGON2_STOPPED, "a call for an unknown user can be stopped");
@@ -247,5 +229,5 @@ int main(void)
     check_lengths();
     check_rehash();
     check_unknown();
-    return finish(30);
+    return finish(29);
 }

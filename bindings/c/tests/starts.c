@@ -79,6 +79,22 @@ static void check_small(void)
     check(good, "a hash starts threads only where they pay");
 }
 
+/* The threads that verify an encoded hash, and those for an unknown user, who must not be told from others by them. */
+static void check_verifying(void)
+{
+    enum { EACH = PROVED_ARGON2_MAX_VERIFYING_THREADS };
+    static const char text[] =
+        "$argon2id$v=19$m=4096,t=1,p=64$c29tZXNhbHQ$AAAAAAAAAAAAAAAAAAAAAAAAAAAAAAAAAAAAAAAAAAA";
+    const proved_argon2_settings settings = {PROVED_ARGON2_ID, PROVED_ARGON2_VERSION_13, 4096, 1, 64, 32};
+    const proved_argon2_options with = by(64);
+    refuse_nothing();
+    const uint32_t known = proved_argon2_password_verify_with(&with, text, "password", 8, NULL, 0);
+    check(known == PROVED_ARGON2_MISMATCH && granted == EACH - 1, "16 threads verify an encoded hash of 64 lanes");
+    refuse_nothing();
+    const uint32_t unknown = proved_argon2_password_verify_unknown(&with, &settings, "password", 8, NULL, 0);
+    check(unknown == PROVED_ARGON2_MISMATCH && granted == EACH - 1, "an unknown user has as many");
+}
+
 /* A hash's processor time in microseconds with so many threads, without the system's time. */
 static int64_t time_of(uint32_t lanes, uint32_t threads)
 {
@@ -210,13 +226,14 @@ int main(int argc, char **argv)
     }
     check_errors();
     check_small();
+    check_verifying();
     check_many();
     if (argc > 1 && strcmp(argv[1], "few") == 0) {
-        return finish(3);
+        return finish(5);
     }
     check(make(LARGE, PASSES), "libargon2 computes the tag");
     check_cancelling(PTHREAD_CANCEL_DEFERRED, "a call goes on where its thread is cancelled");
     check_cancelling(PTHREAD_CANCEL_ASYNCHRONOUS, "a call goes on where its thread is cancelled at once");
     check_state();
-    return finish(7);
+    return finish(9);
 }

@@ -1,40 +1,32 @@
 /*
- * The calls with options (bindings/c): tags with 1 to 33 threads compared with libargon2's, the caller's buffer and
- * pool, options and limits. starts.c tests threads, memory.c memory, and clearing.c what is left in the process.
+ * The calls with options (bindings/c): tags with 1 to 33 threads compared with libargon2's, the caller's buffer,
+ * options and limits. starts.c tests threads, memory.c memory, and clearing.c what is left in the process.
  *
  *     threads          all checks
- *     threads few      for valgrind's tools: address space, a few tags, and eight hashes at once over pools whose
- *                      threads stay
+ *     threads few      for valgrind's tools: address space, a few tags, and eight hashes at once
  */
 #include "calls.h"
 #include "system.h"
 
 /* ---- tags */
 
-static int goes_on(void *arg, uint64_t done, uint64_t all)
-{
-    (void)arg;
-    return done > all;
-}
-
-/* One call compared with libargon2, with threads or a pool, in its own or the caller's memory, with a callback for half
- * of the thread counts. */
-static bool agrees(const struct call *call, uint32_t threads, uint32_t kind)
+/* One call compared with libargon2, in its own or the caller's memory, with a callback for half of the thread counts.
+ */
+static bool agrees(const struct call *call, uint32_t threads, bool is_callers)
 {
     uint8_t tag[LONGEST], expected[LONGEST];
     char text[4 * LONGEST];
     proved_argon2_options with = by(threads);
     const size_t len = call->settings.hash_length;
     uint8_t *const buffer = __real_malloc((size_t)call->settings.mem_cost * 1024);
-    with.run = kind % 2 == 1 ? backwards : NULL;
     with.progress = threads % 2 == 0 ? goes_on : NULL;
-    with.memory = kind >= 2 ? buffer : NULL;
+    with.memory = is_callers ? buffer : NULL;
     with.memory_len = (size_t)call->settings.mem_cost * 1024;
     memset(buffer, 5, with.memory_len);
     bool same = peer(call, expected) && hash_raw(&with, call, tag) == PROVED_ARGON2_OK
         && memcmp(tag, expected, len) == 0;
     same = same && verify_raw(&with, call, expected) == PROVED_ARGON2_OK;
-    expected[kind < 2 ? len - 1 : below((uint32_t)len)] ^= (uint8_t)(1 << below(8));
+    expected[is_callers ? below((uint32_t)len) : len - 1] ^= (uint8_t)(1 << below(8));
     same = same && verify_raw(&with, call, expected) == PROVED_ARGON2_MISMATCH;
     with.progress = goes_on;
     same = same && verify_raw(&with, call, expected) == PROVED_ARGON2_MISMATCH;
@@ -58,7 +50,7 @@ static void check_tags(uint32_t count, uint32_t most_lanes)
     uint32_t good = 0;
     for (uint32_t i = 0; i < count; i++) {
         const struct call call = i % 4 == 0 ? any_large_call(most_lanes) : any_call(most_lanes);
-        good += agrees(&call, 1 + i % 33, most_lanes < 33 ? i % 4 : i / 33 % 4);
+        good += agrees(&call, 1 + i % 33, (most_lanes < 33 ? i / 2 : i / 33) % 2 != 0);
     }
     printf("%u of %u calls by 1 to 33 threads agree with libargon2\n", good, count);
     check(good == count, "tags, verdicts and texts by threads");
@@ -99,106 +91,16 @@ static bool log_in_at_once(login *logins)
     return good;
 }
 
-/* Each by threads of its own. */
-static void check_at_once(void)
+/* Small hashes in their callers' threads, or large ones by threads of their own. If several callers start and join
+ * threads at once, a tool confuses a thread with an earlier one of the same ID, and reports false errors. */
+static void check_at_once(uint32_t threads)
 {
     login logins[LOGINS];
     for (size_t i = 0; i < LOGINS; i++) {
-        logins[i].call = any_large_call(THREADS);
-        logins[i].with = by(THREADS);
+        logins[i].call = threads == 1 ? any_call(THREADS) : any_large_call(THREADS);
+        logins[i].with = by(threads);
     }
-    check(log_in_at_once(logins), "eight hashes at once");
-}
-
-/* A pool whose threads stay. If several callers start and join threads at once, a tool confuses a thread with an
- * earlier one of the same ID, and reports false errors: so callers use threads that already exist. */
-typedef struct staying {
-    pthread_mutex_t mutex;
-    pthread_cond_t begun, ended;
-    pthread_t threads[THREADS];
-    void (*task)(void *, uint32_t);
-    void *arg;
-    uint32_t next, tasks, done;
-    bool is_over;
-} staying;
-
-/* Runs one task after another until told to stop. */
-static void *stay(void *arg)
-{
-    staying *const self = arg;
-    pthread_mutex_lock(&self->mutex);
-    while (!self->is_over) {
-        if (self->next == self->tasks) {
-            pthread_cond_wait(&self->begun, &self->mutex);
-            continue;
-        }
-        const uint32_t number = self->next++;
-        pthread_mutex_unlock(&self->mutex);
-        self->task(self->arg, number);
-        pthread_mutex_lock(&self->mutex);
-        self->done++;
-        pthread_cond_signal(&self->ended);
-    }
-    pthread_mutex_unlock(&self->mutex);
-    return NULL;
-}
-
-static int run_staying(void *pool, uint32_t tasks, void (*task)(void *, uint32_t), void *arg)
-{
-    staying *const self = pool;
-    pthread_mutex_lock(&self->mutex);
-    self->task = task;
-    self->arg = arg;
-    self->next = self->done = 0;
-    self->tasks = tasks;
-    pthread_cond_broadcast(&self->begun);
-    while (self->done < tasks) {
-        pthread_cond_wait(&self->ended, &self->mutex);
-    }
-    self->next = self->tasks = 0;
-    pthread_mutex_unlock(&self->mutex);
-    return 0;
-}
-
-static bool begin_staying(staying *self)
-{
-    bool good = true;
-    *self = (staying){
-        .mutex = PTHREAD_MUTEX_INITIALIZER, .begun = PTHREAD_COND_INITIALIZER, .ended = PTHREAD_COND_INITIALIZER};
-    for (size_t i = 0; i < THREADS; i++) {
-        good &= pthread_create(&self->threads[i], NULL, stay, self) == 0;
-    }
-    return good;
-}
-
-static void end_staying(staying *self)
-{
-    pthread_mutex_lock(&self->mutex);
-    self->is_over = true;
-    pthread_cond_broadcast(&self->begun);
-    pthread_mutex_unlock(&self->mutex);
-    for (size_t i = 0; i < THREADS; i++) {
-        pthread_join(self->threads[i], NULL);
-    }
-}
-
-static void check_at_once_over_pools(void)
-{
-    static staying pools[LOGINS];
-    login logins[LOGINS];
-    bool good = true;
-    for (size_t i = 0; i < LOGINS; i++) {
-        good &= begin_staying(&pools[i]);
-        logins[i].call = any_call(THREADS);
-        logins[i].with = by(THREADS);
-        logins[i].with.run = run_staying;
-        logins[i].with.pool = &pools[i];
-    }
-    good = good && log_in_at_once(logins);
-    for (size_t i = 0; i < LOGINS; i++) {
-        end_staying(&pools[i]);
-    }
-    check(good, "eight hashes at once, over pools");
+    check(log_in_at_once(logins), threads == 1 ? "eight hashes at once" : "eight hashes by threads at once");
 }
 
 /* ---- address space */
@@ -301,13 +203,13 @@ int main(int argc, char **argv)
     if (argc > 1 && strcmp(argv[1], "few") == 0) {
         check_address_space();
         check_tags(5, 4);
-        check_at_once_over_pools();
+        check_at_once(1);
         return finish(4);
     }
     check_address_space();
     check_tags(400, 100);
-    check_at_once();
-    check_at_once_over_pools();
+    check_at_once(1);
+    check_at_once(THREADS);
     check_options();
     check_limits();
     return finish(30);

@@ -58,7 +58,7 @@ pub struct Stored {
     pub salt_length: u32,
 }
 
-/// `proved_argon2_options` of the header. This crate passes no thread pool.
+/// `proved_argon2_options` of the header.
 #[repr(C)]
 pub struct Options {
     // options, by .ci/pages/presets
@@ -66,8 +66,6 @@ pub struct Options {
     threads: u32,
     memory: *mut c_void,
     memory_len: usize,
-    run: *const c_void,
-    pool: *mut c_void,
     limits: *const Limits,
     progress: Option<extern "C" fn(*mut c_void, u64, u64) -> c_int>,
     arg: *mut c_void,
@@ -89,8 +87,6 @@ impl Options {
         threads: 0,
         memory: null_mut(),
         memory_len: 0,
-        run: null(),
-        pool: null_mut(),
         limits: null(),
         progress: None,
         arg: null_mut(),

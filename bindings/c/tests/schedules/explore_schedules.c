@@ -1,5 +1,5 @@
 /* Runs a call of the compiled driver in every way in which it can go, each way in its own run. This
- * file replaces the system (platform.h), the heap, the proved calls, and the caller's pool and progress callback: it
+ * file replaces the system (platform.h), the heap, the proved calls, and the caller's progress callback: it
  * chooses what happens, and watches what the driver does. It tries each choice in all ways, depth first.
  *
  *     explore_schedules LANES THREADS PASSES SWITCHES    prints how many runs there were, or the first fault with its
@@ -23,14 +23,14 @@
 #include <string.h>
 #include <ucontext.h>
 
-enum { MOST_CHOICES = 512, MOST_THREADS = 3, MOST_TAKEN = 4, TAG = 4, ERROR_BEFORE = 77, KIB = 1024, KINDS = 64 };
+enum { MOST_CHOICES = 512, MOST_THREADS = 3, MOST_TAKEN = 4, TAG = 4, ERROR_BEFORE = 77, KIB = 1024, KINDS = 32 };
 enum { LONG = 4 * KIB }; /* blocks of a lane in a slice, which only its own thread takes */
 
 /* ---- what is asked */
 
 static struct {
     uint32_t lanes, threads, passes, switches, segment;
-    bool is_large, is_callers, is_verdict, has_progress, has_pool, is_long;
+    bool is_large, is_callers, is_verdict, has_progress, is_long;
 } asked;
 
 /* ---- choices */
@@ -64,9 +64,9 @@ static bool has_another_run(void)
 static void must(bool holds, const char *what)
 {
     if (!holds) {
-        printf("violated: %s;%s%s%s%s%s%s, at", what, asked.is_large ? " large" : "",
+        printf("violated: %s;%s%s%s%s%s, at", what, asked.is_large ? " large" : "",
             asked.is_callers ? " caller's memory" : "", asked.is_verdict ? " verdict" : "",
-            asked.has_progress ? " progress" : "", asked.has_pool ? " pool" : "", asked.is_long ? " long" : "");
+            asked.has_progress ? " progress" : "", asked.is_long ? " long" : "");
         for (size_t i = 0; i < depth; i++) {
             printf(" %u", choices[i].way);
         }
@@ -86,7 +86,7 @@ static struct run {
     uint32_t code;            /* how the call is to end: nothing fails after the first failure */
     uint32_t begun, filled;   /* lanes, a bit for each */
     uint64_t stage, reported; /* slices that are filled, or are being filled, and those that were reported */
-    bool is_finished, is_dirty, is_forked, is_caller_saved, is_pool_wrong;
+    bool is_finished, is_dirty, is_forked, is_caller_saved;
     uint32_t switches; /* how often it switched threads without need */
     size_t there;      /* bytes that were populated */
     struct taken {
@@ -116,7 +116,7 @@ static size_t arena_len(void)
 /* Whether something fails here: at most one thing does in a run. */
 static bool fails(uint32_t code)
 {
-    if (run.code != PROVED_ARGON2_OK || run.is_pool_wrong || choose(2) == 0) {
+    if (run.code != PROVED_ARGON2_OK || choose(2) == 0) {
         return false;
     }
     run.code = code;
@@ -162,7 +162,7 @@ static void switch_to(uint32_t next)
 
 /* ---- the model, which must allow each run */
 
-#define MOVES(X) X(Wakes) X(Enters) X(Claims) X(Runs) X(Strays) X(Writes) X(Completes) X(Fails) X(Advances) X(Stops)
+#define MOVES(X) X(Wakes) X(Enters) X(Claims) X(Writes) X(Completes) X(Fails) X(Advances) X(Stops)
 #define VALUE(name) name,
 #define TEXT(name) #name,
 
@@ -174,7 +174,7 @@ static struct model {
     const struct call *call;
     uint64_t step, woken[MOST_THREADS], entered[MOST_THREADS], state[MOST_THREADS];
     uint32_t owner[MOST_THREADS]; /* the thread that claimed a worker's part last */
-    bool is_over, is_astray;
+    bool is_over;
 } model;
 
 static void make(enum move move, bool can)
@@ -209,7 +209,7 @@ static void move_workers(bool are_in_step)
             if (are_in_step) {
                 make(worker->code == 0 ? Completes : Fails, model.owner[i] == current);
             } else {
-                make(asked.has_pool ? Runs : Claims, is_in(step) && model.state[i] == worker->state);
+                make(Claims, is_in(step) && model.state[i] == worker->state);
                 model.owner[i] = current;
             }
         }
@@ -234,15 +234,10 @@ static bool are_codes_zero(void)
     return are_zero;
 }
 
-/* Whether the caller's thread may stop: after the last step, after a whole step, or once a pool runs no task any
- * more. */
+/* Whether the caller's thread may stop: after the last step, or after a whole step. */
 static bool can_stop(void)
 {
-    bool is_idle = asked.has_pool;
-    for (uint32_t i = 0; i < model.call->tasks; i++) {
-        is_idle = is_idle && model.state[i] != 2 * model.step + 1;
-    }
-    return !model.is_over && (model.step == 4 * (uint64_t)asked.passes + 1 || are_workers_through() || is_idle);
+    return !model.is_over && (model.step == 4 * (uint64_t)asked.passes + 1 || are_workers_through());
 }
 
 /* Makes the moves of the running thread since the last look. No other thread ran, so their order is known. */
@@ -252,14 +247,10 @@ static void look_at_moves(void)
     if (!is_at_work()) {
         return;
     }
-    if (call->is_astray && !model.is_astray) {
-        make(Strays, asked.has_pool && is_in_step());
-        model.is_astray = true;
-    }
     move_workers(true);
     const bool has_failed = call->is_over && run.code != PROVED_ARGON2_OK;
     if (model.step != call->step && !has_failed) {
-        make(Advances, is_in_step() && are_workers_through() && are_codes_zero() && !model.is_astray);
+        make(Advances, is_in_step() && are_workers_through() && are_codes_zero());
         model.step++;
     }
     move_workers(false);
@@ -608,7 +599,7 @@ uint32_t proved_argon2_job_verify_over(const proved_argon2_job *passed_job, bloc
     return finish(passed_job, verified, verified_len == TAG && are_whole(blocks, blocks_len), tag, tag_len);
 }
 
-/* ---- the caller's callbacks */
+/* ---- the caller's callback */
 
 /* Goes on, stops, or goes on in a child that was forked here, where there are no other threads. */
 static int report_progress(void *arg, uint64_t done, uint64_t all)
@@ -625,29 +616,6 @@ static int report_progress(void *arg, uint64_t done, uint64_t all)
     return 0;
 }
 
-/* Runs the tasks in rising or in falling order. Or it is wrong: it leaves one out, runs one twice, runs one that is
- * not there, or refuses after running all. */
-static int run_tasks(void *pool, uint32_t tasks, void (*task)(void *arg, uint32_t i), void *arg)
-{
-    enum { FALLING = 1, LEAVES_OUT, REPEATS, EXCEEDS, REFUSES, WAYS };
-    must(pool == &job && run.code == PROVED_ARGON2_OK, "the pool, and not behind a failure");
-    must(tasks == (asked.threads < asked.lanes ? asked.threads : asked.lanes), "as many tasks as there may be");
-    look_at_moves();
-    const unsigned way = choose(WAYS), which = way == LEAVES_OUT || way == REPEATS ? choose(tasks) : 0;
-    run.is_pool_wrong = way >= LEAVES_OUT;
-    for (uint32_t i = 0; i < tasks; i++) {
-        const uint32_t next = way == FALLING ? tasks - 1 - i : i;
-        if (way != LEAVES_OUT || next != which) {
-            task(arg, next);
-        }
-    }
-    if (way == REPEATS || way == EXCEEDS) {
-        task(arg, way == REPEATS ? which : tasks);
-    }
-    run.code = run.is_pool_wrong ? PROVED_ARGON2_WORKER_REFUSED : run.code;
-    return way == REFUSES ? 1 : 0;
-}
-
 /* ---- a run */
 
 static uint32_t make_call(uint8_t *tag)
@@ -657,8 +625,6 @@ static uint32_t make_call(uint8_t *tag)
     with.threads = asked.threads;
     with.memory = asked.is_callers ? arena : NULL;
     with.memory_len = asked.is_callers ? arena_len() : 0;
-    with.run = asked.has_pool ? run_tasks : NULL;
-    with.pool = &job;
     with.progress = asked.has_progress ? report_progress : NULL;
     with.arg = &asked;
     uint32_t code = proved_driver_begin_call(&call, &with, false);
@@ -707,17 +673,16 @@ static uint64_t run_all(void)
     return runs;
 }
 
-/* A kind of call, a bit each: large, over the caller's memory, a verdict in place of a hash, with progress, by a pool,
- * and by threads in long parts. */
+/* A kind of call, a bit each: large, over the caller's memory, a verdict in place of a hash, with progress, and by
+ * threads in long parts. */
 static uint64_t run_kind(unsigned kind)
 {
     asked.is_large = kind & 1;
     asked.is_callers = kind >> 1 & 1;
     asked.is_verdict = kind >> 2 & 1;
     asked.has_progress = kind >> 3 & 1;
-    asked.has_pool = kind >> 4 & 1;
-    asked.is_long = kind >> 5 & 1;
-    if (asked.is_long && (!asked.is_large || asked.has_pool || asked.lanes == 1 || asked.threads == 1)) {
+    asked.is_long = kind >> 4 & 1;
+    if (asked.is_long && (!asked.is_large || asked.lanes == 1 || asked.threads == 1)) {
         return 0;
     }
     asked.segment = asked.is_long ? LONG : asked.is_large ? (KIB + asked.lanes - 1) / asked.lanes : 2;

@@ -39,15 +39,6 @@ static struct {
 
 static proved_argon2_block blocks[MAX_BLOCKS];
 
-static int run_here(void *pool, uint32_t tasks, void (*task)(void *, uint32_t), void *arg)
-{
-    for (uint32_t i = 0; i < tasks; i++) {
-        task(arg, i);
-    }
-    ++*(uint32_t *)pool;
-    return 0;
-}
-
 static int tell_here(void *arg, uint64_t done, uint64_t all)
 {
     ++*(uint32_t *)arg;
@@ -58,8 +49,8 @@ static int tell_here(void *arg, uint64_t done, uint64_t all)
 static const proved_argon2_limits WIDEST = {UINT32_MAX, UINT32_MAX, UINT32_MAX, UINT64_MAX};
 
 /* In order of OPTIONS: a plain call, which makes one proved call; a call in a reusable buffer; one in steps in this
-   thread, with a progress callback; one by four threads; and one in this program's memory, with its pool, one task per
-   lane, and its progress callback. */
+   thread, with a progress callback; one by four threads; and one in this program's memory, with at most one thread
+   per lane, and its progress callback. */
 static proved_argon2_options REUSED = {.size = sizeof REUSED, .limits = &WIDEST};
 static const proved_argon2_options PROGRESS = {
     .size = sizeof PROGRESS, .limits = &WIDEST, .threads = 1, .progress = tell_here, .arg = &answer.calls_back};
@@ -69,8 +60,6 @@ static const proved_argon2_options CALLER = {.size = sizeof CALLER,
     .threads = UINT32_MAX,
     .memory = blocks,
     .memory_len = sizeof blocks,
-    .run = run_here,
-    .pool = &answer.calls_back,
     .progress = tell_here,
     .arg = &answer.calls_back};
 static const proved_argon2_options *const OPTIONS[] = {NULL, &REUSED, &PROGRESS, &THREADS, &CALLER};

@@ -67,8 +67,6 @@ class Options(ctypes.Structure):
         ("threads", ctypes.c_uint32),
         ("memory", ctypes.c_void_p),
         ("memory_len", ctypes.c_size_t),
-        ("run", ctypes.c_void_p),
-        ("pool", ctypes.c_void_p),
         ("limits", ctypes.POINTER(NumberLimits)),
         ("progress", _Progress),
         ("arg", ctypes.c_void_p),
