@@ -50,8 +50,8 @@ PROCEDURES = {
          '#[test]\nfn one_is_one() {\n    assert!(1 == 1);\n}\n\n#[test]\nfn encode_string')],
     'a test in Python': [
         ('.ci/pages/test_example.py', None, '"""Whether one is one."""\n\n\ndef test_one():\n    assert True\n'),
-        ('.ci/CMakeLists.txt', r'judge\(.ci/gate/test_run.py EARLY\)',
-         'judge(.ci/gate/test_run.py EARLY)\njudge(.ci/pages/test_example.py QUICK)')],
+        ('.ci/CMakeLists.txt', r'judge\(.ci/pages/test_procedures.py FULL',
+         'judge(.ci/pages/test_example.py QUICK)\njudge(.ci/pages/test_procedures.py FULL')],
     'a page': [('docs/EXAMPLE.md', None, '# An example\n\n[Using it](USE.md) has more.\n'),
                (FIRST, '- How do I change it[?] ', '- What is an example? [An example](docs/EXAMPLE.md)\n'
                 '- How do I change it? ')],
@@ -160,7 +160,8 @@ def test_write_names_a_file_that_was_not_changed_by_hand(copy, change, place):
         copy.run('.ci/pages/write')
 
 
-def test_the_generated_text_about_reports_is_current(built, copy):
+def test_the_generated_text_about_reports_is_current(copy):
+    assert run('build/make').returncode == 0
     assert 'not built' not in copy.run('.ci/pages/write')
     copy.assert_is_current()
 

@@ -60,7 +60,7 @@ def on_arm():
     if root.returncode == 77:
         pytest.skip(f"Debian's packages for ARM64 cannot be had: {root.stdout[-200:]}")
     assert root.returncode == 0, root.stdout
-    return ready('x86_64', 'aarch64') / 'aarch64'
+    return ready('aarch64') / 'aarch64'
 
 
 @pytest.fixture(scope='module')
@@ -82,10 +82,10 @@ def python(packages):
 
 @pytest.fixture(scope='module')
 def made():
-    """The folder with all that is linked for Windows and what it is linked of."""
+    """The folder with what is linked for Windows."""
     if not shutil.which(f'{TOOLS}gcc-posix'):
         pytest.skip('there is no mingw-w64')
-    return ready('x86_64', WINDOWS)
+    return ready(WINDOWS)
 
 
 @pytest.fixture
@@ -237,7 +237,7 @@ def others(made, folder, code):
     """The parts, code or constants, in which a file for Windows differs from the library's objects for Linux, which are
     linked here at the same addresses."""
     objects = [folder / f'proved_argon2_{build}.o' for build in BUILDS]
-    output_of('ar', 'x', '--output', folder, made / 'x86_64' / ARCHIVE)
+    output_of('ar', 'x', '--output', folder, ready('x86_64') / 'x86_64' / ARCHIVE)
     for file in objects:  # (a linker would merge equal constants)
         output_of('objcopy', '--set-section-flags', '.rodata*=alloc,readonly,data', file)
     begins = {'code': code.code[0][1], 'constants': code.data[0][1]}
@@ -271,7 +271,7 @@ def test_dll_exports_only_header_calls_needs_only_the_system_and_can_be_anywhere
     of_dll = output_of(f'{TOOLS}objdump', '-p', made / WINDOWS / DLL)
     calls = re.findall(r'\[ *\d+\] (?:\+base\[ *\d+\] +[0-9a-f]+ )?(proved_\w+)$', of_dll, re.M)
     linux = re.findall(r' T (\w+)', output_of('nm', '-D', '--defined-only',
-                                              *made.glob('x86_64/libproved_argon2.so.?.*')))
+                                              *ready('x86_64').glob('x86_64/libproved_argon2.so.?.*')))
     assert {*calls} == {*linux} != set()
     assert {*re.findall(r'DLL Name: (\S+)', of_dll)} == {'ADVAPI32.dll', 'KERNEL32.dll', 'msvcrt.dll'}
     assert {'HIGH_ENTROPY_VA', 'DYNAMIC_BASE', 'NX_COMPAT'} <= {*of_dll.split()}

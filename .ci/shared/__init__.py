@@ -25,10 +25,9 @@ def output_of(*words, **how):
     return done.stdout
 
 
-def ready(*parts):
-    """The folder with what build/make links: these parts, or the part for this machine."""
-    output_of('build/make', *parts)
-    return TOP / 'bindings/out'
+def ready(part='x86_64'):
+    """The folder with a part of these sources: release/, or else what is built here (build/prepare)."""
+    return Path(output_of('build/prepare', part, stderr=subprocess.DEVNULL).strip())
 
 
 # ---- the machine

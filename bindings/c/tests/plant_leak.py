@@ -86,9 +86,8 @@ def objects(archive, folder, prefix=''):
 
 
 def library(folder, cpu=''):
-    """The objects of the library, brought up to date, or of a library that has only the build for a processor."""
-    run(TOP / 'build/make', 'x86_64')
-    built = TOP / 'bindings/out'
+    """The objects of the library, or of a library that has only the build for a processor."""
+    built = Path(run(TOP / 'build/prepare', 'x86_64').strip())
     if cpu:
         run(TOP / 'build/link', 'x86_64', built, folder.with_suffix('.built'), env={**os.environ, 'BUILDS': cpu})
         built = folder.with_suffix('.built')

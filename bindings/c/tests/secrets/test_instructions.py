@@ -9,6 +9,7 @@ import re
 import shutil
 import subprocess
 from collections import Counter
+from pathlib import Path
 
 import cases as of
 import plant_leak
@@ -95,9 +96,9 @@ def fixture_arm64(request, tmp_path_factory):
     division behind a branch."""
     if lacking := [program for program in (QEMU, f'{PREFIX}gcc') if not shutil.which(program)]:
         pytest.skip(f'there is no {lacking[0]}')
-    run(TOP / 'build/make', 'aarch64')
+    built = Path(run(TOP / 'build/prepare', 'aarch64').strip())
     folder = tmp_path_factory.mktemp('made')
-    own = objects(TOP / 'bindings/out/aarch64/libproved_argon2.a', folder / 'objects', PREFIX)
+    own = objects(built / 'aarch64/libproved_argon2.a', folder / 'objects', PREFIX)
     name, planted = f'proved_argon2_{request.param}.o', folder / 'planted.o'
     plant_leak.main(own[name], 'branch_to_a_division', planted)
     return [(path, compiled(folder / f'over-{path.stem}', '-static', CALLS, *{**own, name: path}.values(),
