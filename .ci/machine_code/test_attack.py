@@ -1,7 +1,7 @@
 """Attacks test_machine_code.py: in both functions of each build, it changes a bit of each byte of the constants, and
 bits of random instructions until `DRAWN` have become other instructions of the same length. Each change has to be
-found, or to compute the same, for random numbers too. Each forgery of forged.py has to be found. SEED of the
-environment, or a printed one, determines what is random.
+found, or to compute the same, for random numbers too: this shows that the checker checks. SEED of the environment, or a
+printed one, determines what is random.
 """
 
 import copy
@@ -14,51 +14,21 @@ from pathlib import Path
 from types import SimpleNamespace
 
 import arm64
-import forged
 import pytest
 import x86
-from machines import machines
 from shared import TOP
 from terms import BITS, Fault, forget
-from validated import FLAGS, FUNCTIONS, builds_of, code_of, faults_of
+from validated import FLAGS, FUNCTIONS, builds_of, code_of
 
 pytestmark = pytest.mark.timeout(3600)
 RELEASE, SEED = TOP / 'release', os.environ.get('SEED') or random.randrange(1 << 32)
 FILES = 'x86_64/libproved_argon2.a', 'aarch64/libproved_argon2.a', 'wasm32/proved_argon2.wasm'
 # This module has the same instructions, except for the numbers of the functions that are called.
 SAME = 'wasm32/proved_argon2_shared.wasm'
-DRAWN, UNTIL_FORGOTTEN, SHARED, WINDOWS = 300, 100, 'x86_64/libproved_argon2.so.1.0.0', 'windows-x86_64'
+DRAWN, UNTIL_FORGOTTEN = 300, 100
 # The instructions that contain constants of the definitions, and in which bytes.
 WIDE = (re.compile('movabs .*'), 2, 10), (re.compile(r'movk\t.*|mov\tx\d+, #0x[0-9a-f]{3,}'), 0, 4), \
     (re.compile(r'i64\.const -?\d{11,}'), 1, 11)
-OBJECT = f'{machines()["x86_64"].proved[-1]}/libargon2_c.a'
-# Each forgery: its file, and the message that finds it.
-FORGERIES = (
-    ('x86_64/libproved_argon2.so.1.0.0', forged.lead_sections_to_a_copy, 'the code that is read is not what is mapped'),
-    ('x86_64/libproved_argon2.a', forged.hide_a_member, 'it is not the archive that its members make'),
-    ('x86_64/argon2', forged.redirect_a_call, 'fill_words .* instructions call it'),
-    (OBJECT, forged.add_a_decoy, 'something else multiplies as they do'),
-    ('wasm32/proved_argon2.wasm', forged.call_a_copy, 'fill_words .* instructions call it'),
-    *((SHARED, *row) for row in [
-        (forged.let_the_stack_be_executed, 'its stack can be executed'),
-        (forged.lack_a_stack, 'its stack can be executed'),
-        (forged.add_code_that_is_not_read, 'a segment can be executed and not read'),
-        (forged.add_code_behind_the_end, 'it maps code that is not read'),
-        (forged.let_code_be_relocated, 'its dynamic table has DT_TEXTREL'),
-        (forged.relocate_code, 'its loader writes to .* which is not writable'),
-        (forged.have_another_dynamic_table, 'its dynamic table is not where a loader finds it'),
-        (forged.lead_into_an_instruction, 'calls .* where no instruction begins')]),
-    ('x86-64-v3/argon2_tool', forged.begin_in_front_of_the_code, 'calls .* where no instruction begins'),
-    (FILES[0], forged.relocate_by_the_size_of_a_symbol, 'a linker writes more than a distance'),
-    (OBJECT, forged.relocate_an_instruction, 'a linker writes into '),
-    (OBJECT, forged.refer_to_another_symbol, 'more than a distance into its code, of memsex'),
-    (f'{WINDOWS}/proved_argon2.dll', forged.relocate_code_of_a_dll, 'its loader writes to .* which is code'),
-    (f'{WINDOWS}/proved_argon2.dll', forged.relocate_a_constant_of_a_dll, 'a loader writes to the constant'),
-    (f'{WINDOWS}/proved_argon2.dll', forged.let_code_of_a_dll_be_written, 'its code can be written'),
-    (f'{WINDOWS}/proved_argon2.dll', forged.begin_a_dll_in_an_instruction, 'where no instruction begins'),
-    (f'{WINDOWS}/libproved_argon2.dll.a', forged.add_code_to_an_import, 'it has other code than jumps: ret'),
-    (FILES[2], forged.show_an_instruction_by_a_name, 'it has two instructions at'),
-    (FILES[2], forged.end_a_line_in_a_name, 'it has a control character in a name'))
 
 
 def read_with(code, bits):
@@ -182,15 +152,6 @@ def test_both_modules_have_the_same_instructions():
               for text, _ in code.bodies[begin].values() if not text.startswith('local[')]
              for code in (code_of(RELEASE / name) for name in (FILES[-1], SAME))]
     assert texts[0] and texts[0] == texts[1]
-
-
-@pytest.mark.parametrize('name, forge, expected', FORGERIES)
-def test_each_forgery_is_found(tmp_path, name, forge, expected):
-    made = tmp_path / name
-    made.parent.mkdir()
-    forge(RELEASE / name, made)
-    faults = faults_of(made)
-    assert re.search(expected, '\n'.join(faults)), faults
 
 
 @pytest.mark.parametrize('decode, known, other', [

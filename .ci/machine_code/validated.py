@@ -6,7 +6,7 @@ from typing import Callable
 
 import rfc7693
 import rfc9106
-from linked import Code, check_imports
+from linked import Code
 from machine import WORD
 from machines import machines
 from terms import Fault, variable
@@ -91,8 +91,6 @@ def faults_of_function(code, function, begin):
         faults.add(f'it looks {below} times at what is below the stack pointer')
     if missed and not faults:
         faults.add(f'it is not run: {missed}')
-    if misplaced := code.misplaced(begin):
-        faults.add(f'a linker writes into {", ".join(misplaced)}')
     if code.calls(begin) != function.calls:
         faults.add(f'{code.calls(begin)} instructions call it')
     return [f'{function.name} at {begin}: {fault}' for fault in faults], met
@@ -101,8 +99,6 @@ def faults_of_function(code, function, begin):
 def faults_of(path):
     """What is wrong with both functions in a file, for each build of its machine."""
     try:
-        if path.name.endswith('.dll.a'):
-            return check_imports(path) or []
         code = code_of(path)
         code.validate()
     except Fault as fault:

@@ -2,9 +2,6 @@
 
 import functools
 import re
-import tempfile
-from itertools import pairwise
-from pathlib import Path
 
 from linked import require, run
 from machine import RETURN, Machine, add, known, left, right
@@ -14,8 +11,6 @@ from terms import BITS, Fault, variable
 TYPE = re.compile(r' - type\[(\d+)\] \((.*)\) -> \w+')
 SIGNATURE = re.compile(r' - func\[(\d+)\] sig=(\d+)')
 HEAD = re.compile(r'[0-9a-f]+ func\[(\d+)\](?: <.*>)?:')
-CODE = re.compile(r' +Code start=\w+ end=(\w+) ')
-NAMED = re.compile(r'  \((import|export) ')
 LINE = re.compile(r' ([0-9a-f]+):((?: [0-9a-f]{2})+) +\| *(.*)')
 OPENS, LOW = ('block', 'loop'), (1 << 32) - 1
 # A function with more multiplications than this may compress blocks; computing sizes and parsing numbers needs fewer.
@@ -29,9 +24,8 @@ class Module:
     clears = ()
 
     def __init__(self, path):
-        self.kind, self.path, self.content, self.read_at = Wasm, path, path.read_bytes(), {}
-        lines = run(require('wasm-objdump'), '-h', '-x', '-d', path).split('\n')
-        self.end = max(int(found[1], 16) for found in map(CODE.match, lines) if found)
+        self.kind, self.path, self.content = Wasm, path, path.read_bytes()
+        lines = run(require('wasm-objdump'), '-x', '-d', path).split('\n')
         counts = {found[1]: len(found[2].split()) for found in map(TYPE.fullmatch, lines) if found}
         self.arguments = {found[1]: counts[found[2]] for found in map(SIGNATURE.match, lines) if found}
         self.bodies, body, at = {}, {}, 0
@@ -39,13 +33,11 @@ class Module:
             if head:
                 body = self.bodies[head[1]] = {}
             elif found:
-                own = bytes.fromhex(found[2])
-                if self.read_at.setdefault(int(found[1], 16), own) is not own:
-                    raise Fault(f'it has two instructions at {found[1]}')
+                size = len(bytes.fromhex(found[2]))
                 if found[3]:
-                    at, body[at] = int(found[1], 16), (found[3].split(' <')[0], len(own))
+                    at, body[at] = int(found[1], 16), (found[3].split(' <')[0], size)
                 else:  # (the rest of the bytes of the instruction before)
-                    body[at] = body[at][0], body[at][1] + len(own)
+                    body[at] = body[at][0], body[at][1] + size
         self.instructions = {at: instruction for body in self.bodies.values() for at, instruction in led(body)}
 
     def at(self, address):
@@ -68,26 +60,8 @@ class Module:
         return self.traps(address + size) if text == 'end' else text == 'unreachable'
 
     def validate(self):
-        """Fails unless this is a module whose code wasm-objdump has read. It prints names unchanged, so a line end in a
-        name could show other code. A released module has only the names of its imports and exports."""
+        """Fails unless this is a valid module."""
         run('wasm-validate', '--enable-memory64', '--enable-threads', self.path)
-        with tempfile.NamedTemporaryFile() as stripped:
-            run('wasm-strip', '-o', stripped.name, self.path)
-            if Path(stripped.name).read_bytes() != self.content:
-                raise Fault('it has a section that no engine reads')
-        named = (line for line in run('wasm2wat', '--enable-all', self.path).split('\n') if NAMED.match(line))
-        if any('\\' in line for line in named):
-            raise Fault('it has a control character in a name')
-        begins = {min(body) for body in self.bodies.values()}
-        for (at, own), (after, _) in pairwise([*sorted(self.read_at.items()), (self.end, b'')]):
-            # (a function's size and its number of kinds of variables precede it)
-            if self.content[at:at + len(own)] != own or not 0 <= after - at - len(own) <= 6 * (after in begins):
-                raise Fault('the code that is read is not that of the file')
-
-    @staticmethod
-    def misplaced(_):
-        """Nothing links a module anew."""
-        return []
 
     def calls(self, number):
         """How many instructions call a function."""

@@ -1,7 +1,5 @@
 """What pages claim of the sources and of the toolchain: what depends on secrets (bindings/c/tests/secrets/depends.txt),
-what the prover takes without proof, and the hash of each group of files of pinned.txt.
-
-No test would notice if pinned files accepted one more password than the proved calls, so each change must be visible.
+what the prover takes without proof, and the hash of the theorems' statements that pinned.txt lists.
 """
 
 import hashlib

@@ -3,7 +3,7 @@ doors: Rattle's root calls, the calls for C without and with the steps of a hash
 
 A clause rests on the files that define its names, and a file on those that it imports from. The script fails at an
 import that it does not understand, at an undefined name, and if root calls rest on files outside of the folders
-Standard. pinned.txt shows a changed definition; the quoted text or its hash shows a changed contract.
+Standard. The quoted text or its hash shows a changed contract.
 """
 
 import functools
