@@ -58,14 +58,15 @@ async def serve():
     assert answers[:68] == [True] * 68 and type(answers[68]).__name__ == "BusyError"
     assert (await tune_while_serving()).memory_cost <= 65536
 
-assert (is_match, key_id) == (True, "2026") and 0 < tuning.milliseconds <= 250
+assert is_match and new is None and not hasher.verify_and_update(stored, password, associated_data=b"user 8")[0]
+assert key_id == "2026" and 0 < tuning.milliseconds <= 250
 asyncio.run(serve())
 """
 
 
 def test_all_code_of_the_page_for_python_runs(installed):
     pieces = re.findall(r"^```python\n(.*?)^```", (TOP / "docs/PYTHON.md").read_text(), re.M | re.S)
-    assert len(pieces) == 5
+    assert len(pieces) == 6
     # On a busy machine no settings may take at most 250 ms.
     code = "".join([*pieces, AFTER_THE_PAGE]).replace("(250, ", "(25000, ").replace("<= 250", "<= 25000")
     run("python3", "-B", "-c", code, env={

@@ -12,8 +12,15 @@ from unittest import mock
 
 import pytest
 from processes import PATIENCE, status_of_child
-from proved_argon2 import AsyncPasswordHasher, PasswordHasher, PepperedHasher, _pool
-from proved_argon2.exceptions import Argon2Error, BusyError, HashingError, TooCostlyError, VerifyMismatchError
+from proved_argon2 import AsyncPasswordHasher, AsyncPepperedHasher, PasswordHasher, PepperedHasher, _pool
+from proved_argon2.exceptions import (
+    Argon2Error,
+    BusyError,
+    HashingError,
+    TooCostlyError,
+    UnknownPepperError,
+    VerifyMismatchError,
+)
 
 HASHER = PasswordHasher(time_cost=1, memory_cost=64, parallelism=2)
 # A hash that takes more than a minute.
@@ -112,8 +119,40 @@ def test_calls_have_the_results_of_password_hasher():
         assert await hasher.verify_and_update(encoded, "password") == (True, None)
         assert await hasher.verify_unknown("password") is False
         assert not hasher.check_needs_rehash(encoded)
+        encoded = await hasher.hash("password", associated_data=b"user 7")
+        assert await hasher.verify(encoded, "password", associated_data=b"user 7") is True
+        assert await hasher.verify_and_update(encoded, "password", associated_data=b"user 7") == (True, None)
+        assert await hasher.verify_and_update(encoded, "password") == (False, None)
 
     asyncio.run(compare())
+
+
+def test_calls_have_the_results_of_peppered_hasher():
+    async def compare():
+        hasher = AsyncPepperedHasher(PepperedHasher({"2026": b"new", "2025": b"old"}, time_cost=1, memory_cost=64))
+        key_id, encoded = await hasher.hash("password", associated_data=b"user 7")
+        data = {"associated_data": b"user 7"}
+        assert PasswordHasher(secret=b"new").verify(encoded, "password", **data) and key_id == "2026"
+        assert await hasher.verify_and_update(key_id, encoded, "password", **data) == (True, None)
+        assert await hasher.verify_and_update(key_id, encoded, "Password", **data) == (False, None)
+        old = PasswordHasher(1, 64, secret=b"old").hash("password")
+        is_match, (key_id, renewed) = await hasher.verify_and_update("2025", old, "password")
+        assert is_match and (await hasher.verify_and_update(key_id, renewed, "password")) == (True, None)
+        with pytest.raises(UnknownPepperError):
+            await hasher.verify_and_update("2024", old, "password")
+        assert await hasher.verify_unknown("password") is False
+
+    asyncio.run(compare())
+
+
+@pytest.mark.parametrize("settings, expected", [
+    ({"memory_cost": 65536, "parallelism": 4}, 2), ({"memory_cost": 64, "parallelism": 1}, 8)])
+def test_the_default_concurrency_with_peppers_is_that_of_the_settings_that_are_computed(settings, expected):
+    with mock.patch("proved_argon2._async_hasher.processors", lambda: 8), \
+            mock.patch("proved_argon2._async_hasher.memory", lambda: 16 << 30):
+        peppered, base = AsyncPepperedHasher(PepperedHasher({"2026": b"key"}, **settings)), PasswordHasher(**settings)
+        assert peppered.concurrency == AsyncPasswordHasher(base).concurrency == expected
+        assert peppered.waiting == 16 * expected
 
 
 def test_run_makes_calls_of_a_peppered_hasher():
@@ -280,12 +319,17 @@ def test_limits_that_allow_no_call_are_rejected(bounds):
         AsyncPasswordHasher(**bounds)
 
 
+WRONG_HASHER = {"hasher": {"hasher": PasswordHasher()}}
+
+
 @pytest.mark.parametrize("arguments", [
     {"concurrency": "4"}, {"waiting": 1.5}, {"concurrency": True}, {"hasher": PepperedHasher({"2026": b"key"})}])
 def test_arguments_of_a_wrong_type_are_named_in_the_error(arguments):
     (name,) = arguments
     with pytest.raises(TypeError, match=f"^'{name}' must be (int|PasswordHasher), not "):
         AsyncPasswordHasher(**arguments)
+    with pytest.raises(TypeError, match=f"^'{name}' must be (int|PepperedHasher), not "):
+        AsyncPepperedHasher(**{"hasher": PepperedHasher({"2026": b"key"}), **arguments, **WRONG_HASHER.get(name, {})})
 
 
 # ---- forked children

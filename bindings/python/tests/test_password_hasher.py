@@ -17,6 +17,7 @@ from proved_argon2 import (
     DEFAULT_LIMITS,
     Parameters,
     PasswordHasher,
+    PepperedHasher,
     Type,
     _library,
     extract_parameters,
@@ -73,6 +74,31 @@ def test_the_constructor_has_the_arguments_of_argon2_cffi_and_three_more():
     assert PasswordHasher().verify(text, "password") is True
 
 
+def test_a_password_matches_only_with_the_associated_data_of_its_hash():
+    hasher, other = PasswordHasher(**SMALL, secret=b"pepper"), PasswordHasher(**OTHER, secret=b"pepper")
+    text = hasher.hash("password", salt=b"somesalt", associated_data=b"user 7")
+    arguments = b"password", b"somesalt", *SMALL.values(), 32, Type.ID
+    assert text == low_level.hash_secret(*arguments, key=b"pepper", associated_data=b"user 7").decode()
+    assert hasher.verify(text, "password", associated_data=b"user 7") is True
+    is_match, new = other.verify_and_update(text, "password", associated_data=b"user 7")
+    assert is_match and other.verify_and_update(new, "password", associated_data=b"user 7") == (True, None)
+    for data in ({}, {"associated_data": b"user 8"}):
+        assert other.verify_and_update(text, "password", **data) == (False, None)
+        for stored in (text, new):
+            with pytest.raises(VerifyMismatchError):
+                hasher.verify(stored, "password", **data)
+
+
+@pytest.mark.parametrize("data", ["user 7", None, bytearray(b"user 7"), 7])
+def test_associated_data_that_is_not_bytes_is_rejected(data):
+    hasher = PasswordHasher(**SMALL)
+    for call in (lambda: hasher.hash("password", associated_data=data),
+                 lambda: hasher.verify(TEXT, "password", associated_data=data),
+                 lambda: hasher.verify_and_update(TEXT, "password", associated_data=data)):
+        with pytest.raises(TypeError, match="^'associated_data' must be bytes, not "):
+            call()
+
+
 def arguments(call):
     return [(name.replace("hash", "text"), argument.kind, argument.default)
             for name, argument in inspect.signature(call).parameters.items() if name != "self"]
@@ -80,6 +106,7 @@ def arguments(call):
 
 @pytest.mark.parametrize("name, call", [
     ("PasswordHasher", PasswordHasher), ("extract_parameters", extract_parameters),
+    ("PepperedHasher", PepperedHasher), ("PepperedHasher.from_parameters", PepperedHasher.from_parameters),
     *((f"hasher.{name}", getattr(PasswordHasher, name)) for name in ("hash", "verify", "check_needs_rehash"))])
 def test_the_page_shows_the_arguments_and_defaults_of_each_call(name, call):
     page, names = " ".join((TOP / "docs/PYTHON.md").read_text("utf-8").split()), dict(vars(proved_argon2))

@@ -2,7 +2,16 @@
 from unittest import mock
 
 import pytest
-from proved_argon2 import PasswordHasher, PepperedHasher, Type, low_level
+from proved_argon2 import (
+    DEFAULT_LIMITS,
+    Limits,
+    Parameters,
+    PasswordHasher,
+    PepperedHasher,
+    Type,
+    extract_parameters,
+    low_level,
+)
 from proved_argon2.exceptions import (
     HashingError,
     InvalidHashError,
@@ -36,6 +45,35 @@ def test_a_hash_with_an_older_pepper_is_renewed_for_the_right_password_only():
     assert hasher.verify_and_update("2025", encoded, "Password") == (False, None)
     is_match, (key_id, renewed) = hasher.verify_and_update("2025", encoded, "password")
     assert (is_match, key_id) == (True, "2026") and PasswordHasher(secret=b"new").verify(renewed, "password")
+
+
+@pytest.mark.parametrize("variant", Type)
+def test_from_parameters_takes_each_parameter(variant):
+    parameters = Parameters(variant, 19, salt_len=9, hash_len=5, time_cost=2, memory_cost=97, parallelism=3)
+    hasher = PepperedHasher.from_parameters(PEPPERS, parameters)
+    key_id, encoded = hasher.hash("password")
+    assert (key_id, extract_parameters(encoded)) == ("2026", parameters)
+    assert PasswordHasher(secret=b"new").verify(encoded, "password") is True
+    assert (hasher.hasher.limits, hasher.hasher.keep_memory) == (DEFAULT_LIMITS, False)
+
+
+def test_from_parameters_takes_the_other_arguments():
+    limits = Limits(memory_cost=1024, time_cost=3)
+    hasher = PepperedHasher.from_parameters(
+        PEPPERS, extract_parameters(hash_with(b"")), accept_unpeppered=True, limits=limits, keep_memory=True)
+    assert (hasher.hasher.limits, hasher.hasher.keep_memory) == (limits, True)
+    assert hasher.verify_and_update(None, hash_with(b""), "password")[0] is True
+
+
+def test_a_password_matches_only_with_the_associated_data_of_its_hash():
+    hasher = PepperedHasher(PEPPERS, **SMALL)
+    key_id, encoded = hasher.hash("password", associated_data=b"user 7")
+    assert hasher.verify_and_update(key_id, encoded, "password", associated_data=b"user 7") == (True, None)
+    assert hasher.verify_and_update(key_id, encoded, "password", associated_data=b"user 8") == (False, None)
+    assert hasher.verify_and_update(key_id, encoded, "password") == (False, None)
+    old = PasswordHasher(**SMALL, secret=b"old").hash("password", associated_data=b"user 7")
+    is_match, (key_id, renewed) = hasher.verify_and_update("2025", old, "password", associated_data=b"user 7")
+    assert is_match and PasswordHasher(secret=b"new").verify(renewed, "password", associated_data=b"user 7")
 
 
 def test_a_hash_is_not_renewed_if_the_system_makes_no_salt():

@@ -7,14 +7,15 @@
     True
 
 `encoded` is an encoded hash (PHC string): store it for the user. `AsyncPasswordHasher` is for services that use
-asyncio, `PepperedHasher` for services with a pepper, and `tune` finds settings for this machine. `low_level` has calls
-over bytes, `profiles` has recommended settings, and `exceptions` has what the calls raise.
+asyncio, `PepperedHasher` for services with a pepper, `AsyncPepperedHasher` for those with both, and `tune` finds
+settings for this machine. `low_level` has calls over bytes, `profiles` has recommended settings, and `exceptions` has
+what the calls raise.
 
 The constants `DEFAULT_*` are the settings of `PasswordHasher()`: the memory in KiB, lengths in bytes, and the time in
 passes.
 """
 from . import exceptions, low_level, profiles
-from ._async_hasher import AsyncPasswordHasher
+from ._async_hasher import AsyncPasswordHasher, AsyncPepperedHasher
 from ._password_hasher import (
     DEFAULT_HASH_LENGTH,
     DEFAULT_MEMORY_COST,
@@ -35,12 +36,16 @@ from .low_level import Type
 __version__ = "1.0.0"
 
 # This makes `help` and `repr` name these as users import them.
-for _public in (AsyncPasswordHasher, Limits, Parameters, PasswordHasher, PepperedHasher, Tuning, tune, tune_async):
+for _public in (
+    AsyncPasswordHasher, AsyncPepperedHasher, Limits, Parameters, PasswordHasher, PepperedHasher, Tuning, tune,
+    tune_async,
+):
     _public.__module__ = __name__
 del _public
 
 __all__ = [
     "AsyncPasswordHasher",
+    "AsyncPepperedHasher",
     "DEFAULT_HASH_LENGTH",
     "DEFAULT_LIMITS",
     "DEFAULT_MEMORY_COST",

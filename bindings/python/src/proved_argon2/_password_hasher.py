@@ -194,11 +194,13 @@ class PasswordHasher:
         password: "Union[str, bytes]",
         *,
         salt: "Optional[bytes]" = None,
+        associated_data: bytes = b"",
         progress: "Optional[Progress]" = None,
     ) -> str:
         """Hash a password, with a random salt if none is passed. Return an encoded hash (PHC string), to be stored.
 
-        The module `low_level` describes `progress`.
+        `associated_data` is other data that the hash depends on, such as the user's ID: then the hash matches for no
+        other user. The encoded hash does not contain it. The module `low_level` describes `progress`.
 
         Raises `HashingError` if the settings are rejected, memory cannot be allocated or the system makes no salt, and
         `UnicodeEncodeError` if the password has characters that `encoding` cannot represent, such as lone surrogates.
@@ -207,13 +209,20 @@ class PasswordHasher:
             require_number("salt_len", self.salt_len, HashingError)
         return hash_secret(
             self._password_bytes(password), _salt_or_random(salt, self.salt_len), self.time_cost, self.memory_cost,
-            self.parallelism, self.hash_len, self.type, key=self._secret, memory=self._memory, progress=progress,
+            self.parallelism, self.hash_len, self.type, key=self._secret, associated_data=associated_data,
+            memory=self._memory, progress=progress,
         ).decode("ascii")
 
     def verify(
-        self, hash: "Union[str, bytes]", password: "Union[str, bytes]", *, progress: "Optional[Progress]" = None
+        self,
+        hash: "Union[str, bytes]",
+        password: "Union[str, bytes]",
+        *,
+        associated_data: bytes = b"",
+        progress: "Optional[Progress]" = None,
     ) -> "Literal[True]":
-        """Return `True` if a password matches an encoded hash. A wrong password raises `VerifyMismatchError`.
+        """Return `True` if a password matches an encoded hash. A wrong password or other associated data raises
+        `VerifyMismatchError`.
 
         The module `low_level` describes `progress`.
 
@@ -221,34 +230,37 @@ class PasswordHasher:
         encoded hash. Raises `VerificationError` if the rest of it is invalid, its settings are rejected or memory
         cannot be allocated. Raises `UnicodeEncodeError` as `hash()` does.
         """
+        require_types(associated_data=(associated_data, bytes))
         encoded, secret = _encoded_bytes(hash), self._password_bytes(password)
         settings, limits = self._settings_of(encoded), numbers_of(self.limits)
-        return verify_of_settings(settings, (encoded, secret, self._secret, b""), limits, self._memory, progress)
+        pieces = encoded, secret, self._secret, associated_data
+        return verify_of_settings(settings, pieces, limits, self._memory, progress)
 
     def verify_and_update(
         self,
         hash: "Union[str, bytes]",
         password: "Union[str, bytes]",
         *,
+        associated_data: bytes = b"",
         progress: "Optional[Progress]" = None,
         renew_by: "Optional[PasswordHasher]" = None,
     ) -> "Tuple[bool, Optional[str]]":
         """Return whether a password matches an encoded hash, and a new encoded hash to store in place of the old one.
 
         The second value is `None` if there is nothing to store: if the password does not match, or the hash has these
-        settings and a salt of this length, or the new hash cannot be computed. `renew_by` is another hasher, which
-        makes the new hash.
+        settings and a salt of this length, or the new hash cannot be computed. The new hash has the same associated
+        data. `renew_by` is another hasher, which makes the new hash.
 
         Raises what `verify` raises, except for a wrong password.
         """
         try:
-            self.verify(hash, password, progress=progress)
+            self.verify(hash, password, associated_data=associated_data, progress=progress)
         except VerifyMismatchError:
             return False, None
         hasher = self if renew_by is None else renew_by
         try:
             is_due = hasher._secret != self._secret or hasher.check_needs_rehash(hash)
-            return True, hasher.hash(password, progress=progress) if is_due else None
+            return True, hasher.hash(password, associated_data=associated_data, progress=progress) if is_due else None
         except (HashingError, MemoryError):
             return True, None
 

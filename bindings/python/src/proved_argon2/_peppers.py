@@ -1,5 +1,6 @@
 """A `PasswordHasher` with several peppers; each stored hash uses one of them."""
 from ._password_hasher import PasswordHasher, require_types
+from ._settings import DEFAULT_LIMITS, Limits, Parameters
 from .exceptions import UnknownPepperError
 
 TYPE_CHECKING = False
@@ -14,7 +15,8 @@ if TYPE_CHECKING:
 class PepperedHasher:
     """Hashes with the newest of several peppers, and verifies with the pepper whose ID is stored beside the hash.
 
-    `peppers` maps IDs to keys, which are bytes, the newest first. The other arguments are those of `PasswordHasher`.
+    `peppers` maps IDs to keys, which are bytes, the newest first. `settings` are the other arguments of
+    `PasswordHasher` by their names, all except `secret`.
 
     Store the ID beside the encoded hash, which does not contain it. To rotate, put a new key first. Remove an old key
     when `verify_and_update` has replaced all of its hashes.
@@ -41,12 +43,38 @@ class PepperedHasher:
             self._hashers[None] = PasswordHasher(**settings)
         self.newest = next(iter(peppers))
 
-    def hash(self, password: "Union[str, bytes]", *, progress: "Optional[Progress]" = None) -> "Stored":
+    @classmethod
+    def from_parameters(
+        cls,
+        peppers: "Mapping[str, bytes]",
+        params: Parameters,
+        *,
+        accept_unpeppered: bool = False,
+        limits: "Optional[Limits]" = DEFAULT_LIMITS,
+        keep_memory: bool = False,
+    ) -> "PepperedHasher":
+        """Return a hasher with these settings, such as a profile or those that `tune` finds, except for the version,
+        which is always `ARGON2_VERSION`.
+        """
+        return cls(
+            peppers, accept_unpeppered=accept_unpeppered, time_cost=params.time_cost, memory_cost=params.memory_cost,
+            parallelism=params.parallelism, hash_len=params.hash_len, salt_len=params.salt_len, type=params.type,
+            limits=limits, keep_memory=keep_memory,
+        )
+
+    @property
+    def hasher(self) -> PasswordHasher:
+        """The hasher that makes new hashes, with the newest pepper."""
+        return self._hashers[self.newest]
+
+    def hash(
+        self, password: "Union[str, bytes]", *, associated_data: bytes = b"", progress: "Optional[Progress]" = None
+    ) -> "Stored":
         """Hash a password with the newest pepper. Return the pepper's ID and the encoded hash, to be stored.
 
         Raises what `PasswordHasher.hash` raises.
         """
-        return self.newest, self._hashers[self.newest].hash(password, progress=progress)
+        return self.newest, self.hasher.hash(password, associated_data=associated_data, progress=progress)
 
     def verify_and_update(
         self,
@@ -54,6 +82,7 @@ class PepperedHasher:
         hash: "Union[str, bytes]",
         password: "Union[str, bytes]",
         *,
+        associated_data: bytes = b"",
         progress: "Optional[Progress]" = None,
     ) -> "Tuple[bool, Optional[Stored]]":
         """Return whether a password matches, and the ID and the encoded hash to store in place of these.
@@ -71,7 +100,7 @@ class PepperedHasher:
                 "the hash has no pepper" if key_id is None else f"there is no pepper with the ID {key_id!r}"
             )
         is_match, update = self._hashers[key_id].verify_and_update(
-            hash, password, progress=progress, renew_by=self._hashers[self.newest]
+            hash, password, associated_data=associated_data, progress=progress, renew_by=self.hasher
         )
         return is_match, None if update is None else (self.newest, update)
 
@@ -82,4 +111,4 @@ class PepperedHasher:
 
         Raises what `PasswordHasher.verify` raises, except for a wrong password.
         """
-        return self._hashers[self.newest].verify_unknown(password, progress=progress)
+        return self.hasher.verify_unknown(password, progress=progress)
