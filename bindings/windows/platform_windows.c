@@ -47,13 +47,6 @@ void proved_driver_unmap_pages(void *pages, size_t bytes)
     VirtualFree(pages, 0, MEM_RELEASE);
 }
 
-bool proved_driver_populate_pages(void *pages, size_t bytes)
-{
-    (void)pages;
-    (void)bytes;
-    return true;
-}
-
 bool proved_driver_take_random(uint8_t *bytes, size_t len)
 {
     return len <= ULONG_MAX && RtlGenRandom(bytes, (ULONG)len);

@@ -109,17 +109,6 @@ uint32_t proved_driver_end_call(struct call *call, uint32_t code)
     return code;
 }
 
-/* Populates a worker's part of the pages at once. */
-static uint32_t populate(const struct call *call, uint32_t number)
-{
-    const size_t all = (size_t)bytes_of(&call->job), bytes = call->with.memory == NULL && is_mapped(all) ? all : 0;
-    const size_t part = (bytes / call->tasks / HUGE_PAGE + 1) * HUGE_PAGE, from = part * number;
-    const size_t left = from >= bytes ? 0 : bytes - from;
-    return left == 0 || proved_driver_populate_pages((char *)call->blocks + from, left < part ? left : part)
-        ? PROVED_ARGON2_OK
-        : PROVED_ARGON2_OUT_OF_MEMORY;
-}
-
 /* Claims a worker's part of a step. Exactly one thread succeeds, so that each part is taken once, even if threads are
  * late. Moves: Claims. */
 static bool claim(struct call *call, uint64_t step, uint32_t number)
@@ -161,7 +150,7 @@ static uint32_t take_step_of_lane(struct call *call, uint64_t step, uint32_t lan
  * a function that is not yet bound, and the loader would save them on the stack. */
 CLEARS_REGISTERS static void take_step(struct call *call, uint64_t step, uint32_t number)
 {
-    uint32_t code = step == 0 ? populate(call, number) : PROVED_ARGON2_OK;
+    uint32_t code = PROVED_ARGON2_OK;
     for (uint64_t lane = number; lane < call->job.lanes && code == PROVED_ARGON2_OK; lane += call->tasks) {
         code = take_step_of_lane(call, step, (uint32_t)lane);
     }
@@ -271,7 +260,7 @@ static uint32_t compute_over(struct call *call, const uint8_t *hash, uint8_t *ta
     const block *const last = call->blocks + 3 * call->slice;
     const size_t all = 4 * call->slice, len = call->job.hash_length;
     const bool is_alone = call->tasks == 1 && call->with.progress == NULL;
-    const uint32_t code = is_alone ? populate(call, 0) : fill(call);
+    const uint32_t code = is_alone ? PROVED_ARGON2_OK : fill(call);
     if (code != PROVED_ARGON2_OK) {
         return code;
     }

@@ -5,7 +5,7 @@
 #include "calls.h"
 #include "system.h"
 
-enum { TAG = 32, SMALL = 256, LARGE = 3072, HUGE_PAGE = 2 << 20 };
+enum { TAG = 32, SMALL = 256, LARGE = 3072, HUGE_PAGE = 2 << 20, LONG_REST = 768 << 10 };
 
 /* What a call may write to, which an error leaves unchanged. */
 static uint8_t buffer[256], before[256];
@@ -51,6 +51,13 @@ static const struct row {
     ROW(hash_encoded_with, 1, true), ROW(verify_raw_with, 1, true), ROW(verify_encoded_with, 1, true),
     ROW(job_run, 0, true), ROW(job_run_verify, 1, true)};
 
+/* How many bytes the driver allocates for so many blocks. A long rest behind the last huge page gets a huge page. */
+static size_t whole_of(uint32_t mem_cost)
+{
+    const size_t bytes = (size_t)mem_cost * 1024, rest = bytes % HUGE_PAGE;
+    return bytes > HUGE_PAGE && rest >= LONG_REST ? bytes - rest + HUGE_PAGE : bytes;
+}
+
 static void make(uint32_t mem_cost)
 {
     refuse_nothing();
@@ -88,7 +95,7 @@ static bool ends_well(const struct row *row, size_t number, size_t needed)
 /* Denies the first request, the second and so on, until no more are made. */
 static void check_call(const struct row *row, uint32_t threads)
 {
-    const size_t blocks = (size_t)call.settings.mem_cost * 1024;
+    const size_t blocks = whole_of(call.settings.mem_cost);
     const bool has_team = threads > 1 && call.settings.mem_cost == LARGE;
     const size_t needed = 1 + row->bytes + (has_team || with.progress != NULL ? 1 : 0);
     const size_t expected = needed + (has_team ? 2 : 0);
@@ -106,47 +113,28 @@ static void check_call(const struct row *row, uint32_t threads)
     check(good && requests == expected && most_held >= blocks && most_held <= most, name);
 }
 
-/* A call that is denied pages once, when it populates them. If the system has no pages, the call returns the memory
- * error and writes nothing; if it cannot populate, pages are allocated when touched. */
-static bool ends_well_unpopulated(const struct row *row, size_t number, int how)
+/* Whether a hash requests huge pages for all its whole ones. It lets the system allocate each page once it is touched:
+ * while the system populates a range, calls of other threads cannot map memory. */
+static bool maps_well(uint32_t mem_cost, uint32_t threads)
 {
-    fill_bytes(buffer, sizeof buffer, 7);
-    memcpy(before, buffer, sizeof buffer);
-    refuse_nothing();
-    held = 0;
-    refused_populating = number;
-    refused_how = how;
-    errno = 77;
-    const uint32_t code = row->does();
-    const bool is_errno = errno == 77;
-    const bool is_short = code == PROVED_ARGON2_OUT_OF_MEMORY && memcmp(buffer, before, sizeof buffer) == 0;
-    return is_errno && held == 0 && (how == 0 || how == EINVAL ? is_value(code) : is_short);
-}
-
-/* All pages are requested once, as huge pages, and any part of them may be denied. */
-static void check_populating(const struct row *row, uint32_t threads)
-{
-    const size_t blocks = (size_t)call.settings.mem_cost * 1024;
-    char name[96];
+    const size_t whole = whole_of(mem_cost), most = whole + HUGE_PAGE + 2048;
+    call.settings.mem_cost = mem_cost;
     with = by(threads);
-    bool good = ends_well_unpopulated(row, 0, 0) && populated == blocks
-        && in_huge_pages == blocks / HUGE_PAGE * HUGE_PAGE && (populatings > 1) == (threads > 1);
-    for (size_t number = populatings; good && number > 0; number--) {
-        good = ends_well_unpopulated(row, number, ENOMEM) && ends_well_unpopulated(row, number, EFAULT)
-            && ends_well_unpopulated(row, number, EINVAL);
-    }
-    snprintf(
-        name, sizeof name, "%s by %u threads populates its pages, or fails without them", row->name, (unsigned)threads);
-    check(good, name);
+    refuse_nothing();
+    held = most_held = 0;
+    const bool is_hash = does_hash_raw_with() == PROVED_ARGON2_OK;
+    return is_hash && held == 0 && most_held >= whole && most_held <= most && populatings == 0
+        && in_huge_pages == whole / HUGE_PAGE * HUGE_PAGE;
 }
 
-/* (explore_schedules.c shows for each call what the driver does after the system's answer) */
-static void check_populatings(void)
+/* Sizes below and from the shortest rest that gets a huge page. */
+static void check_huge_pages(void)
 {
-    static const struct row row = ROW(hash_raw_with, 0, true);
+    enum { SHORT = 2800, LONG = 2816, TWO = 4096 };
     make(LARGE);
-    check_populating(&row, 1);
-    check_populating(&row, 4);
+    check(maps_well(SHORT, 1) && maps_well(SHORT, 4), "a short rest gets small pages");
+    check(maps_well(LONG, 1) && maps_well(LONG, 4), "a long rest gets a huge page");
+    check(maps_well(TWO, 1) && maps_well(TWO, 4), "no rest gets no page");
 }
 
 /* The system denies to split a mapping if the process has as many as it may have. */
@@ -188,7 +176,7 @@ static int measures(void *arg, uint64_t done, uint64_t all)
     return done > all;
 }
 
-/* Whether a hash takes no more memory than its memory cost plus a little for each thread. */
+/* Whether a hash takes no more memory than its memory cost in whole pages, plus a little for each thread. */
 static bool takes_no_more(uint32_t mem_cost, uint32_t threads)
 {
     enum { BESIDE = 64 * 1024, OF_A_THREAD = 48 * 1024 };
@@ -198,9 +186,9 @@ static bool takes_no_more(uint32_t mem_cost, uint32_t threads)
     with.progress = measures;
     with.arg = &at_its_end;
     bool good = resident() != 0 && does_hash_raw_with() == PROVED_ARGON2_OK;
-    const size_t before = resident(), blocks = (size_t)mem_cost * 1024;
+    const size_t before = resident(), blocks = (size_t)mem_cost * 1024, whole = whole_of(mem_cost);
     good = good && does_hash_raw_with() == PROVED_ARGON2_OK && at_its_end >= before;
-    const size_t more = at_its_end - before, most = blocks + BESIDE + threads * OF_A_THREAD;
+    const size_t more = at_its_end - before, most = whole + BESIDE + threads * OF_A_THREAD;
     if (!good || more < blocks || more > most) {
         printf("%u KiB by %u threads took %zu bytes more\n", (unsigned)mem_cost, (unsigned)threads, more);
     }
@@ -330,7 +318,7 @@ int main(int argc, char **argv)
 {
     check_calls(SMALL);
     check_calls(LARGE);
-    check_populatings();
+    check_huge_pages();
     check_denied_unmapping();
     const bool is_few = argc > 1 && strcmp(argv[1], "few") == 0;
     if (!is_few) {
@@ -340,5 +328,5 @@ int main(int argc, char **argv)
     check_memory_new(LARGE);
     check_moving();
     check_without_memory();
-    return finish(is_few ? 62 : 64);
+    return finish(is_few ? 63 : 65);
 }

@@ -48,11 +48,8 @@ static size_t first_refused, last_refused;
 static atomic_size_t requests;
 static size_t refused_request;
 
-/* Requests to populate pages, the sum of their bytes, and the bytes for which huge pages were requested; which request
- * to populate is denied, counted from 1, and with which errno. */
-static atomic_size_t populatings, populated, in_huge_pages;
-static size_t refused_populating;
-static int refused_how;
+/* Requests to allocate pages before they are touched, and the bytes for which huge pages were requested. */
+static atomic_size_t populatings, in_huge_pages;
 
 /* Whether the system denies to unmap memory. */
 static bool refuses_to_unmap;
@@ -72,8 +69,8 @@ static void (*look_at)(const void *block);
 static inline void refuse_nothing(void)
 {
     starts = granted = joins = most_running = bursts = open_to_signals = large_stacks = requests = 0;
-    populatings = populated = in_huge_pages = 0;
-    first_refused = last_refused = refused_request = refused_populating = 0;
+    populatings = in_huge_pages = 0;
+    first_refused = last_refused = refused_request = 0;
 }
 
 /* Refuses so many starts from this one on. */
@@ -174,6 +171,7 @@ void *__wrap_mmap(void *at, size_t len, int protection, int flags, int file, off
         nothing();
         return MAP_FAILED;
     }
+    populatings += (flags & MAP_POPULATE) != 0;
     last_mapped = __real_mmap(at, len, protection, flags, file, offset);
     last_mapped_len = len;
     hold(last_mapped == MAP_FAILED ? 0 : len);
@@ -193,16 +191,9 @@ int __wrap_munmap(void *at, size_t len)
 
 int __wrap_madvise(void *at, size_t len, int advice)
 {
-    enum { POPULATE = 23 };
+    enum { POPULATE_READ = 22, POPULATE_WRITE = 23 }; /* of Linux 5.14 */
+    populatings += advice == POPULATE_READ || advice == POPULATE_WRITE;
     in_huge_pages += advice == MADV_HUGEPAGE ? len : 0;
-    if (advice != POPULATE) {
-        return __real_madvise(at, len, advice);
-    }
-    populated += len;
-    if (++populatings == refused_populating) {
-        errno = refused_how;
-        return -1;
-    }
     return __real_madvise(at, len, advice);
 }
 

@@ -8,9 +8,8 @@
  * The model (crates/argon2_c/specs/Team.antt) must allow each move of a thread; otherwise the move is reported as a
  * fault. The last lines say how often each was made.
  *
- * Threads are run one at a time. Another may run before each part, wait, progress and populating of pages, and after
- * each wake and the start of a team, at most SWITCHES times. If a thread cannot go on, the caller's does, or else the
- * first that can. */
+ * Threads are run one at a time. Another may run before each part, wait and progress, and after each wake and the start
+ * of a team, at most SWITCHES times. If a thread cannot go on, the caller's does, or else the first that can. */
 #define _GNU_SOURCE
 #define PROVED_ARGON2_NULL_H /* (the driver's calls are those here) */
 #define PROVED_ARGON2_PASSWORD_H
@@ -88,7 +87,6 @@ static struct run {
     uint64_t stage, reported; /* slices that are filled, or are being filled, and those that were reported */
     bool is_finished, is_dirty, is_forked, is_caller_saved;
     uint32_t switches; /* how often it switched threads without need */
-    size_t there;      /* bytes that were populated */
     struct taken {
         void *at;
         size_t len;
@@ -439,15 +437,6 @@ void proved_driver_unmap_pages(void *pages, size_t bytes)
     run.is_dirty = false;
 }
 
-bool proved_driver_populate_pages(void *pages, size_t bytes)
-{
-    const size_t from = (size_t)((char *)pages - (char *)arena);
-    go_on();
-    must(!asked.is_callers && asked.is_large && bytes != 0 && from + bytes <= arena_len(), "pages of the call's own");
-    run.there += bytes;
-    return !fails(PROVED_ARGON2_OUT_OF_MEMORY);
-}
-
 void proved_driver_overwrite(void *bytes, size_t len)
 {
     if (bytes == arena && len == arena_len()) {
@@ -653,7 +642,6 @@ static void look_at_end(uint32_t code, const uint8_t *tag)
     must(tag[0] == (is_written ? 3 : otherwise) && tag[TAG - 1] == tag[0], "a tag is written, or nothing");
     must(!run.is_dirty, "the blocks are cleared");
     must(errno == ERROR_BEFORE && run.is_caller_saved && !is_team && current == 0, "the caller's thread is as it was");
-    must(code != PROVED_ARGON2_OK || asked.is_callers || !asked.is_large || run.there == arena_len(), "all pages came");
     for (size_t i = 0; i < run.count; i++) {
         must(!run.taken[i].is_live, "what was taken is freed");
     }
