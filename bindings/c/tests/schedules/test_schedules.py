@@ -23,9 +23,9 @@ CASES = list(itertools.product((1, 2, 3), (1, 2, 3), (1, 2)))
 # By threads and passes, how many switches of threads without need are allowed.
 SWITCHES = {(1, 1): 0, (1, 2): 0, (2, 1): 2, (2, 2): 2, (3, 1): 2, (3, 2): 1}
 # By lanes and threads, how many runs there are over all kinds of call, of one pass and of two.
-RUNS = {(1, 1): (132, 196), (1, 2): (132, 196), (1, 3): (132, 196),
-        (2, 1): (172, 268), (2, 2): (74680, 405456), (2, 3): (74680, 28808),
-        (3, 1): (212, 340), (3, 2): (129668, 754676), (3, 3): (1121920, 159292)}
+RUNS = {(1, 1): (128, 192), (1, 2): (128, 192), (1, 3): (128, 192),
+        (2, 1): (168, 264), (2, 2): (70288, 400364), (2, 3): (70288, 28100),
+        (3, 1): (208, 336), (3, 2): (120720, 722080), (3, 3): (1030920, 152944)}
 # By each fault's name: a piece of the driver, and what takes its place. @ separates the lines of a piece.
 FAULTS = {name: [piece.replace('@', '\n') for piece in pieces] for name, *pieces in rows(HERE / 'faults.txt')}
 assert len(FAULTS) == 40
