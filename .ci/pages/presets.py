@@ -22,6 +22,7 @@ TYPES = {
     'void *': ('*mut c_void', 'null_mut()', 'ctypes.c_void_p'),
     'const proved_argon2_limits *': ('*const Limits', 'null()', 'ctypes.POINTER(NumberLimits)'),
     'const proved_argon2_settings *': ('*const Settings', 'null()', 'ctypes.POINTER(Settings)'),
+    'proved_argon2_buffers *': ('*mut c_void', 'null_mut()', 'ctypes.c_void_p'),
     'proved_argon2_progress *': ('Option<extern "C" fn(*mut c_void, u64, u64) -> c_int>', 'None', '_Progress'),
 }
 # The errors from 64 on that Go's calls return.

@@ -82,7 +82,7 @@ type {
         if (match($0, /[a-z_]+;$/))
             fields[type] = fields[type] ".TP\n.I " substr($0, RSTART, RLENGTH - 1) "\n" before "\n"
     }
-    if (/^}|^typedef int/)
+    if (/^}|^typedef .*;$/)
         type = ""
 }
 /^enum / { is_of_errors = /_code/ }

@@ -327,5 +327,6 @@ const char *proved_argon2_message(uint32_t number);
 #endif
 #include "proved_argon2_jobs.h"
 #include "proved_argon2_threads.h"
+#include "proved_argon2_service.h"
 #include "proved_argon2_password.h"
 #endif

@@ -32,6 +32,9 @@ typedef int proved_argon2_progress(void *arg, uint64_t done, uint64_t all);
 #define PROVED_ARGON2_MAX_VERIFYING_THREADS 16
 /* end */
 
+/* A handle of kept buffers, which calls take and give back (proved_argon2_service.h). */
+typedef struct proved_argon2_buffers proved_argon2_buffers;
+
 /* How a call computes. A field that an initializer leaves out is 0; its comment says what that means. */
 typedef struct proved_argon2_options {
     /* sizeof(proved_argon2_options), which PROVED_ARGON2_OPTIONS sets. The call also accepts a larger size, as a later
@@ -59,10 +62,15 @@ typedef struct proved_argon2_options {
      * than these, a call that verifies it returns PROVED_ARGON2_NEEDS_REHASH instead of PROVED_ARGON2_OK. Let the user
      * in then too, and hash the password again. */
     const proved_argon2_settings *new_settings;
+    /* kept buffers, or null (proved_argon2_service.h). They are not used if memory is set. */
+    proved_argon2_buffers *buffers;
+    /* the length of new salts, or 0. If new_settings is set, an encoded hash with a salt of another length counts as
+     * one with other settings. 0 means that lengths of salts are not compared. */
+    size_t new_salt_len;
 } proved_argon2_options;
 
 /* clang-format off */
-#define PROVED_ARGON2_OPTIONS {sizeof(proved_argon2_options), 0, NULL, 0, NULL, NULL, NULL, NULL}
+#define PROVED_ARGON2_OPTIONS {sizeof(proved_argon2_options), 0, NULL, 0, NULL, NULL, NULL, NULL, NULL, 0}
 
 /* proved_argon2_hash_raw with options. */
 PROVED_ARGON2_CHECKED

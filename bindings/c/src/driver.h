@@ -67,6 +67,9 @@ uint32_t proved_driver_take_bytes(struct call *call, uint64_t len);
 /* Computes the tag of a job that was checked. If hash is not null, returns whether it matches. */
 uint32_t proved_driver_compute(struct call *call, const uint8_t *hash, uint8_t *tag);
 
+/* The same in a kept buffer of the call's options, if one can be had. */
+uint32_t proved_driver_compute_kept(struct call *call, const uint8_t *hash, uint8_t *tag);
+
 /* Ends a call with its result: clears its bytes, its job, the stack and the registers. */
 CLEARS_REGISTERS uint32_t proved_driver_end_call(struct call *call, uint32_t code);
 

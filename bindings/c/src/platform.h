@@ -43,6 +43,9 @@ void proved_driver_unmap_pages(void *pages, size_t bytes);
 /* Reads random bytes from the system. Returns whether there were enough. */
 bool proved_driver_take_random(uint8_t *bytes, size_t len);
 
+/* The time in nanoseconds by a clock that nobody sets. */
+uint64_t proved_driver_now(void);
+
 /* Overwrites bytes with zeros. The compiler cannot remove this. */
 void proved_driver_overwrite(void *bytes, size_t len);
 

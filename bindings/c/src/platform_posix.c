@@ -10,9 +10,11 @@
 #include <string.h>
 #include <sys/mman.h>
 #include <sys/random.h>
+#include <time.h>
 #include <unistd.h>
 
 #define LINE 64
+#define SECOND UINT64_C(1000000000) /* in nanoseconds */
 #define HUGE_PAGE ((size_t)2 << 20)
 #define LONG_REST ((size_t)768 << 10) /* bytes behind the last whole huge page (docs/DECISIONS.md) */
 #define STACK (128 * 1024) /* bytes for a thread's calls; as many or more are added for thread-local variables */
@@ -91,6 +93,13 @@ bool proved_driver_take_random(uint8_t *bytes, size_t len)
         received = getrandom(bytes, len, 0);
     } while (received < 0 && errno == EINTR);
     return received == (ssize_t)len;
+}
+
+uint64_t proved_driver_now(void)
+{
+    struct timespec now = {0};
+    clock_gettime(CLOCK_MONOTONIC, &now);
+    return (uint64_t)now.tv_sec * SECOND + (uint64_t)now.tv_nsec;
 }
 
 void proved_driver_overwrite(void *bytes, size_t len)

@@ -11,12 +11,12 @@ enum { TAG = 32, TEXT = 128, LANES = 3, LENGTH = 2, SLICE = LANES * LENGTH, PASS
 static const proved_argon2_settings small = {PROVED_ARGON2_ID, PROVED_ARGON2_VERSION_13, 4 * SLICE, PASSES, LANES, TAG};
 
 /* The places of `arguments`. Calls write to those from MEMORY on. MEMORY is the address of a pointer to a buffer, whose
- * length is at MEMORY_LEN. */
+ * length is at MEMORY_LEN; BUFFERS is that of a handle. */
 /* clang-format off */
 enum place {
     END, OPTIONS, TEXT_READ, TEXT_ENDED, PWD, PASSWORD, SALT, SECRET, PEPPER, AD, SETTINGS, LIMITS, JOB, FIRST, SECOND,
-    THIRD, LAST, HASH, TAG_READ, MEMORY, MEMORY_LEN, BLOCKS, OUT, TAG_OUT, TEXT_WRITTEN, TEXT_BUFFER, STORED,
-    JOB_WRITTEN, OWN, SALT_WRITTEN, HASH_WRITTEN, TAG_WRITTEN, PLACES
+    THIRD, LAST, HASH, TAG_READ, MOST, MEMORY, MEMORY_LEN, BUFFERS, TUNING, BLOCKS, OUT, TAG_OUT, TEXT_WRITTEN,
+    TEXT_BUFFER, STORED, JOB_WRITTEN, OWN, SALT_WRITTEN, HASH_WRITTEN, TAG_WRITTEN, PLACES
 };
 /* clang-format on */
 
@@ -48,6 +48,8 @@ static struct known {
 static struct written {
     void *memory;
     size_t memory_len;
+    proved_argon2_buffers *buffers;
+    proved_argon2_tuning tuning;
     proved_argon2_stored stored;
     proved_argon2_job job;
     proved_argon2_block own[LENGTH + 2], blocks[4 * SLICE + 2];
@@ -103,6 +105,7 @@ static inline void give_to_read(void)
     give(PEPPER, "pepper", inputs + 2, 8);
     give(AD, "ad", inputs + 3, 8);
     give(SETTINGS, "settings", &settings, 0);
+    give(MOST, "most", &settings, 0);
     give(LIMITS, "limits", &limits, 0);
     give(JOB, "job", &job, 0);
     give(FIRST, "first", blocks, SLICE);
@@ -120,6 +123,8 @@ static inline void give_to_write(void)
     memcpy(&written_before, &written, sizeof written);
     give(MEMORY, "memory", &written.memory, 0);
     give(MEMORY_LEN, "memory_len", &written.memory_len, 0);
+    give(BUFFERS, "buffers", &written.buffers, 0);
+    give(TUNING, "tuning", &written.tuning, 0);
     give(BLOCKS, "blocks", written.blocks, 4 * SLICE);
     give(OUT, "out", written.out, TAG);
     give(TAG_OUT, "tag", written.out, TAG);

@@ -11,7 +11,7 @@
  */
 #include "search.h"
 
-enum { NAMES = 14, OF_UNKNOWN = 13, WITH = 6, PLAIN = 11, MEMORIES = 3 };
+enum { NAMES = 14, OF_UNKNOWN = 13, WITH = 6, PLAIN = 11, MEMORIES = 4, KEPT = 3 };
 
 /* The calls with options, those with none, the two of a password alone, and the one for an unknown user. */
 static const char *const names[NAMES] = {"hash_raw_with", "hash_encoded_with", "job_run", "verify_raw_with",
@@ -20,6 +20,7 @@ static const char *const names[NAMES] = {"hash_raw_with", "hash_encoded_with", "
 
 static _Alignas(8) uint8_t caller_bytes[2048 * 1024 + 8];
 static uint8_t out[512];
+static proved_argon2_buffers *kept;
 
 ssize_t __wrap_getrandom(void *buffer, size_t length, unsigned flags);
 
@@ -115,7 +116,7 @@ static bool is_cleared(size_t name, const struct trial *trial)
     return is_nothing_found(names[name]) && is_expected && held == 0;
 }
 
-/* In mapped memory, the heap, or the caller's memory. */
+/* In mapped memory, the heap, the caller's memory, or a kept buffer. */
 static struct trial over(size_t memory, uint32_t threads)
 {
     struct trial trial = {.with = by(threads), .call = memory == 1 ? SMALL : MAPPED};
@@ -123,10 +124,11 @@ static struct trial over(size_t memory, uint32_t threads)
         trial.with.memory = caller_bytes;
         trial.with.memory_len = sizeof caller_bytes - 8;
     }
+    trial.with.buffers = memory == KEPT ? kept : NULL;
     return trial;
 }
 
-/* How many of these memories a call can use: without options it cannot use the caller's memory. */
+/* How many of these memories a call can use: without options it can use only its own. */
 static size_t memories_of(size_t name)
 {
     return name < WITH ? MEMORIES : name < PLAIN ? 2 : 1;
@@ -269,6 +271,31 @@ static void check_memory_free(size_t which)
     look_at = NULL;
     look_everywhere();
     check(is_nothing_found("memory_free") != no_wiping && is_made, "memory_free clears the buffer");
+}
+
+/* A handle of kept buffers, which hashes in one of them and is freed. Then a handle that the other checks use. */
+static void check_buffers(void)
+{
+    seek(MAPPED);
+    memset(found, 0, sizeof found);
+    bool is_right = proved_argon2_buffers_new(&calls[MAPPED].settings, 1, &kept) == PROVED_ARGON2_OK;
+    look_everywhere();
+    check((no_wiping || is_nothing_found("buffers_new")) && is_right, "buffers_new leaves no secrets");
+    const size_t before = held;
+    struct trial trial = over(KEPT, 1);
+    is_right = answer(0, &trial) == PROVED_ARGON2_OK && held > before && is_right;
+    __real_explicit_bzero(out, sizeof out);
+    look_at = look_at_request;
+    proved_argon2_buffers_free(kept);
+    look_at = NULL;
+    look_everywhere();
+    is_right = is_nothing_found("buffers_free") != no_wiping && held < before && is_right;
+    check(is_right, "buffers_free clears the buffers");
+    is_right = proved_argon2_buffers_new(&calls[MAPPED].settings, 1, &kept) == PROVED_ARGON2_OK;
+    trial = over(KEPT, 1);
+    is_right = answer(0, &trial) == PROVED_ARGON2_OK && is_right;
+    __real_explicit_bzero(out, sizeof out);
+    check(is_right, "a buffer is kept for the calls");
 }
 
 /* ---- signals on an alternate stack, where the system saves the registers */
@@ -458,7 +485,7 @@ static int check_all_late(void)
 int main(int argc, char **argv)
 {
     const bool is_few = argc > 1 && strcmp(argv[argc - 1], "few") == 0;
-    const int count = is_few ? 18 : 62;
+    const int count = is_few ? 21 : 65;
     check_nothing_before();
     if (argc > 1 && strcmp(argv[1], "late") == 0) {
         return check_all_late();
@@ -472,6 +499,7 @@ int main(int argc, char **argv)
         check_memory_free(MAPPED);
     }
     check_memory_free(SMALL);
+    check_buffers();
     for (size_t name = 0; name < PLAIN && is_few; name++) {
         check_done(name);
     }

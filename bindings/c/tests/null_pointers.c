@@ -77,6 +77,33 @@ static uint32_t memory_free(void)
     return code;
 }
 
+/* Frees a handle that was made before. */
+static uint32_t buffers_free(void)
+{
+    proved_argon2_buffers *made = NULL;
+    const uint32_t code = arguments[BUFFERS].at == NULL ? PROVED_ARGON2_NULL_POINTER
+                                                        : proved_argon2_buffers_new(&small, 2, &made);
+    proved_argon2_buffers_free(made);
+    return code;
+}
+
+/* Frees the new handle, if there is one. */
+static uint32_t buffers_new(void)
+{
+    const uint32_t code = proved_argon2_buffers_new(arguments[SETTINGS].at, 2, arguments[BUFFERS].at);
+    if (code == PROVED_ARGON2_OK) {
+        proved_argon2_buffers_free(written.buffers);
+    }
+    return code;
+}
+
+/* These settings have too little memory for passwords, so nothing is measured. */
+static uint32_t tune(void)
+{
+    const uint32_t code = proved_argon2_tune(arguments[OPTIONS].at, arguments[MOST].at, 0, arguments[TUNING].at);
+    return code == PROVED_ARGON2_TOO_COSTLY ? PROVED_ARGON2_OK : code;
+}
+
 /* Frees the new buffer, if there is one. Outputs are checked only if the call fails. */
 static uint32_t memory_new(void)
 {
@@ -114,8 +141,9 @@ static const struct row {
     ROW(hash_over, OF_INPUTS, BLOCKS, OUT), ROW(verify_over, OF_INPUTS, BLOCKS, HASH, TAG_WRITTEN),
     ROW(job_hash_over, JOB, BLOCKS, OUT), ROW(job_verify_over, JOB, BLOCKS, HASH, TAG_WRITTEN),
     ROW(job_run, OPTIONS, JOB, TAG_OUT), ROW(job_run_verify, OPTIONS, JOB, HASH),
-    ROW(memory_new, SETTINGS, MEMORY, MEMORY_LEN), ROW(memory_free, MEMORY), ROW(encoded_len, SETTINGS),
-    ROW(memory_len, SETTINGS), {"check", check_settings, {SETTINGS}}, ROW(check_encoded, TEXT_READ, LIMITS, STORED)};
+    ROW(memory_new, SETTINGS, MEMORY, MEMORY_LEN), ROW(memory_free, MEMORY), ROW(buffers_new, SETTINGS, BUFFERS),
+    ROW(buffers_free, BUFFERS), ROW(tune, OPTIONS, MOST, TUNING), ROW(encoded_len, SETTINGS), ROW(memory_len, SETTINGS),
+    {"check", check_settings, {SETTINGS}}, ROW(check_encoded, TEXT_READ, LIMITS, STORED)};
 
 /* ---- null pointers */
 
@@ -131,7 +159,7 @@ static bool tells_what_fits(const struct row *row)
     const bool is_other = row->call == password_verify || row->call == password_verify_with
         || row->call == password_verify_unknown;
     const bool is_done = whole == (is_other ? PROVED_ARGON2_MISMATCH : PROVED_ARGON2_OK);
-    const bool is_whole = row->call == memory_free;
+    const bool is_whole = row->call == memory_free || row->call == buffers_free;
     return is_done && (is_whole ? spoilt == PROVED_ARGON2_OK : spoilt != whole && spoilt != PROVED_ARGON2_NULL_POINTER);
 }
 
@@ -234,8 +262,8 @@ int main(void)
     check_order();
 #ifdef __x86_64__
     check_without_a_build();
-    return finish(233);
+    return finish(245);
 #else
-    return finish(192);
+    return finish(201);
 #endif
 }

@@ -33,31 +33,30 @@ static bool are_right_bytes(const uint8_t *pwd, size_t pwd_len, const char *text
     return code == PROVED_ARGON2_OK;
 }
 
-/* One worker of a service: its buffer serves one login after another. */
-struct worker {
+/* What all threads of a service share. */
+struct service {
     proved_argon2_settings new_settings;
     proved_argon2_limits limits;
     proved_argon2_options options;
 };
 
-static bool begin_worker(struct worker *worker)
+static bool begin_service(struct service *service)
 {
     const proved_argon2_options options = PROVED_ARGON2_OPTIONS;
-    worker->new_settings = proved_argon2_owasp2();
-    worker->limits = proved_argon2_default_limits();
-    worker->options = options;
-    worker->options.new_settings = &worker->new_settings;
-    worker->options.limits = &worker->limits;
-    return proved_argon2_memory_new(&worker->new_settings, &worker->options.memory, &worker->options.memory_len)
-        == PROVED_ARGON2_OK;
+    service->new_settings = proved_argon2_owasp2();
+    service->limits = proved_argon2_default_limits();
+    service->options = options;
+    service->options.new_settings = &service->new_settings;
+    service->options.limits = &service->limits;
+    return proved_argon2_buffers_new(&service->new_settings, 8, &service->options.buffers) == PROVED_ARGON2_OK;
 }
 
 /* What a login returns. `stored` is NULL for unknown users: the call takes as long as usual, and never matches. */
-static uint32_t log_in(struct worker *worker, const char *stored, const char *password, size_t length)
+static uint32_t log_in(const struct service *service, const char *stored, const char *password, size_t length)
 {
     return stored == NULL
-        ? proved_argon2_password_verify_unknown(&worker->options, &worker->new_settings, password, length, NULL, 0)
-        : proved_argon2_password_verify_with(&worker->options, stored, password, length, NULL, 0);
+        ? proved_argon2_password_verify_unknown(&service->options, &service->new_settings, password, length, NULL, 0)
+        : proved_argon2_password_verify_with(&service->options, stored, password, length, NULL, 0);
 }
 
 /* Whether the tag of a cleared password is right. */
@@ -80,14 +79,14 @@ int main(void)
     const uint8_t salt[16] = "a salt of 16 by", bytes[4] = {0, 1, 0xff, 0};
     uint8_t password[8] = "password";
     char stored[PROVED_ARGON2_TEXT_SIZE], costly[PROVED_ARGON2_TEXT_SIZE];
-    struct worker worker;
-    bool holds = begin_worker(&worker) && make_hash("correct horse", stored) && is_right("correct horse", stored);
+    struct service service;
+    bool holds = begin_service(&service) && make_hash("correct horse", stored) && is_right("correct horse", stored);
     holds = holds && !is_right("wrong horse", stored);
-    holds = holds && log_in(&worker, stored, "correct horse", 13) == PROVED_ARGON2_OK;
-    holds = holds && log_in(&worker, stored, "wrong horse", 11) == PROVED_ARGON2_MISMATCH;
-    holds = holds && log_in(&worker, NULL, "correct horse", 13) == PROVED_ARGON2_MISMATCH;
+    holds = holds && log_in(&service, stored, "correct horse", 13) == PROVED_ARGON2_OK;
+    holds = holds && log_in(&service, stored, "wrong horse", 11) == PROVED_ARGON2_MISMATCH;
+    holds = holds && log_in(&service, NULL, "correct horse", 13) == PROVED_ARGON2_MISMATCH;
     holds = holds && make_hash_of_bytes(bytes, 4, salt, costly, sizeof costly) && are_right_bytes(bytes, 4, costly);
     holds = holds && !are_right_bytes(bytes, 3, costly);
-    proved_argon2_memory_free(worker.options.memory, worker.options.memory_len);
+    proved_argon2_buffers_free(service.options.buffers);
     return holds && clears_the_password(password, 8, salt) ? 0 : 1;
 }

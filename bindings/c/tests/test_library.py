@@ -42,10 +42,11 @@ int main()
 """
 # What the driver needs from the system. The proved code uses no heap, and no secret passes through a function of the
 # system that copies.
-OF_SYSTEM = set("""_GLOBAL_OFFSET_TABLE_ __errno_location __stack_chk_fail aligned_alloc calloc explicit_bzero free
-    getpid getrandom madvise malloc mmap munmap pthread_attr_destroy pthread_attr_init pthread_attr_setdetachstate
-    pthread_attr_setguardsize pthread_attr_setstacksize pthread_create pthread_join pthread_setcancelstate
-    pthread_sigmask secure_getenv sem_destroy sem_init sem_post sem_wait sigfillset strcmp strlen sysconf""".split())
+OF_SYSTEM = set("""_GLOBAL_OFFSET_TABLE_ __errno_location __stack_chk_fail aligned_alloc calloc clock_gettime
+    explicit_bzero free getpid getrandom madvise malloc mmap munmap pthread_attr_destroy pthread_attr_init
+    pthread_attr_setdetachstate pthread_attr_setguardsize pthread_attr_setstacksize pthread_create pthread_join
+    pthread_setcancelstate pthread_sigmask secure_getenv sem_destroy sem_init sem_post sem_wait sigfillset strcmp
+    strlen sysconf""".split())
 # The features that x86-64-v2 and x86-64-v3 need, except what an older qemu or glibc needs itself: the driver's names
 # and qemu's. Then x86-64-v4's, and qemu's processors that lack one feature of the first two.
 OF_V2 = dict(CX16='cx16', SSE4_2='sse4.2', POPCNT='popcnt', LAHF_LM='lahf-lm')
@@ -95,10 +96,10 @@ def test_links_from_cpp(compiler, tmp_path):
 
 @cache
 def calls(of=r'(?:PROVED_ARGON2_CHECKED (?:static inline )?uint\d+_t|\bvoid)'):
-    """The calls of the headers whose result is to be looked at, and memory_free, with what each is given."""
+    """The calls of the headers whose result is to be looked at, and those that free, with what each is given."""
     text = ' '.join(line for line in HEADERS.splitlines() if not line.startswith('#'))
     found = re.findall(rf'{of} proved_argon2_(\w+)\(([^()]*)\)', text)
-    assert len(found) == 38
+    assert len(found) == 41
     return {name: [' '.join(given.split()) for given in arguments.split(',')] for name, arguments in found}
 
 
@@ -107,7 +108,7 @@ def name_of(argument):
 
 
 @pytest.mark.parametrize('compiler', ['gcc', 'clang'])
-@pytest.mark.parametrize('call', sorted({*calls()} - {'memory_free'}))
+@pytest.mark.parametrize('call', sorted({*calls()} - {'memory_free', 'buffers_free'}))
 def test_an_ignored_result_is_a_warning(compiler, call, tmp_path):
     given = calls()[call]
     variables = ''.join(f'static {argument};\n' for argument in given)
@@ -120,12 +121,12 @@ def test_an_ignored_result_is_a_warning(compiler, call, tmp_path):
 
 
 def test_declares_each_number_as_checked():
-    """Except the version, whose result need not be checked."""
+    """Except those whose result need not be checked."""
     lines = HEADERS.splitlines()
     unchecked = [line for before, line in zip(lines, lines[1:])
                  if re.match(r'(static inline )?uint(32|64)_t proved_argon2_', line)
                  and not before.startswith('PROVED_ARGON2_CHECKED')]
-    assert [line for line in unchecked if 'library_version(void)' not in line] == []
+    assert [re.search(r'argon2_(\w+)', line)[1] for line in unchecked] == ['library_version', 'buffers_free_idle']
 
 
 def test_version_is_that_of_the_repository():
@@ -144,8 +145,10 @@ def test_each_pointer_is_null_once():
 
 
 def test_looks_at_what_each_call_leaves():
-    """Except for the password calls with options, which the calls without options call."""
-    expected = {'message', *(call for call in calls() if not re.fullmatch('password_.*_with', call))}
+    """Except for the password calls with options, which the calls without options call, and for tune, which hashes no
+    password.
+    """
+    expected = {'message', *(call for call in calls() if not re.fullmatch('password_.*_with|tune', call))}
     assert {name.split()[0] for program in ('clearing', 'proved_clearing') for name in checks_of(program)
             if re.match(r'\w+ (leaves|clears) ', name)} == expected
 
@@ -156,13 +159,13 @@ OF_PAGE = '\n'.join([*PIECES, """int main(void)
 {
     static const uint8_t salt[16] = {1}, bytes[] = {0, 1, 255};
     char stored[PROVED_ARGON2_TEXT_SIZE], text[PROVED_ARGON2_TEXT_SIZE];
-    struct worker worker;
+    struct service service;
     return make_hash("right", stored) && is_right("right", stored) && !is_right("wrong", stored)
         && make_hash_of_bytes(bytes, 3, salt, text, sizeof text) && are_right_bytes(bytes, 3, text)
-        && !are_right_bytes(bytes, 2, text) && begin_worker(&worker)
-        && log_in(&worker, stored, "right", 5) == PROVED_ARGON2_OK
-        && log_in(&worker, stored, "wrong", 5) == PROVED_ARGON2_MISMATCH
-        && log_in(&worker, NULL, "right", 5) == PROVED_ARGON2_MISMATCH ? 0 : 1;
+        && !are_right_bytes(bytes, 2, text) && begin_service(&service)
+        && log_in(&service, stored, "right", 5) == PROVED_ARGON2_OK
+        && log_in(&service, stored, "wrong", 5) == PROVED_ARGON2_MISMATCH
+        && log_in(&service, NULL, "right", 5) == PROVED_ARGON2_MISMATCH ? 0 : 1;
 }
 """])
 

@@ -70,6 +70,8 @@ pub struct Options {
     progress: Option<extern "C" fn(*mut c_void, u64, u64) -> c_int>,
     arg: *mut c_void,
     new_settings: *const Settings,
+    buffers: *mut c_void,
+    new_salt_len: usize,
     // end
 }
 
@@ -91,6 +93,8 @@ impl Options {
         progress: None,
         arg: null_mut(),
         new_settings: null(),
+        buffers: null_mut(),
+        new_salt_len: 0,
         // end
     };
 

@@ -71,6 +71,8 @@ class Options(ctypes.Structure):
         ("progress", _Progress),
         ("arg", ctypes.c_void_p),
         ("new_settings", ctypes.POINTER(Settings)),
+        ("buffers", ctypes.c_void_p),
+        ("new_salt_len", ctypes.c_size_t),
         # end
     ]
 
