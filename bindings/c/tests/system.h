@@ -1,5 +1,5 @@
 /* Replaces system functions in programs linked with --wrap: it counts and denies starts of threads and requests for
- * memory and mappings, counts what is held, and looks at memory before it is freed. */
+ * memory and mappings, interrupts waits, counts what is held, and looks at memory before it is freed. */
 #ifndef SYSTEM_H
 #define SYSTEM_H
 
@@ -8,6 +8,7 @@
 #include <errno.h>
 #include <malloc.h>
 #include <pthread.h>
+#include <semaphore.h>
 #include <signal.h>
 #include <stdatomic.h>
 #include <stdlib.h>
@@ -17,6 +18,8 @@ int __real_pthread_create(pthread_t *thread, const pthread_attr_t *attributes, v
 int __wrap_pthread_create(pthread_t *thread, const pthread_attr_t *attributes, void *(*run)(void *), void *arg);
 int __real_pthread_join(pthread_t thread, void **result);
 int __wrap_pthread_join(pthread_t thread, void **result);
+int __real_sem_wait(sem_t *semaphore);
+int __wrap_sem_wait(sem_t *semaphore);
 void *__real_mmap(void *at, size_t len, int protection, int flags, int file, off_t offset);
 void *__wrap_mmap(void *at, size_t len, int protection, int flags, int file, off_t offset);
 int __real_munmap(void *at, size_t len);
@@ -40,6 +43,10 @@ static atomic_size_t starts, granted, joins, running, most_running, bursts;
 
 /* Threads that were started while some signal was not blocked, and starts that requested a stack that is not small. */
 static atomic_size_t open_to_signals, large_stacks;
+
+/* Whether each wait is interrupted once, and how many were. */
+static bool interrupts_waits;
+static atomic_size_t interruptions;
 
 /* Which starts are refused, counted from 1; 0 for none. */
 static size_t first_refused, last_refused;
@@ -139,6 +146,19 @@ int __wrap_pthread_join(pthread_t thread, void **result)
     joins++;
     running--;
     return __real_pthread_join(thread, result);
+}
+
+/* (as if a signal handler had run) */
+int __wrap_sem_wait(sem_t *semaphore)
+{
+    static _Thread_local bool was_interrupted;
+    was_interrupted = interrupts_waits && !was_interrupted;
+    if (was_interrupted) {
+        interruptions++;
+        errno = EINTR;
+        return -1;
+    }
+    return __real_sem_wait(semaphore);
 }
 
 static inline bool is_refused(void)

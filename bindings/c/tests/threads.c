@@ -56,6 +56,17 @@ static void check_tags(uint32_t count, uint32_t most_lanes)
     check(good == count, "tags, verdicts and texts by threads");
 }
 
+/* A signal handler that runs while a thread waits ends the wait, but the thread must not go on before it is woken. */
+static void check_interrupted_waits(void)
+{
+    const struct call call = {
+        {PROVED_ARGON2_ID, PROVED_ARGON2_VERSION_13, 4096, 2, 4, 32}, "password", "somesalt", "", "", 8, 8, 0, 0};
+    interrupts_waits = true;
+    const bool good = agrees(&call, 4, false);
+    interrupts_waits = false;
+    check(good && interruptions > 0, "tags by threads whose waits are interrupted");
+}
+
 /* ---- eight hashes at once */
 
 enum { LOGINS = 8, THREADS = 4 };
@@ -203,14 +214,16 @@ int main(int argc, char **argv)
     if (argc > 1 && strcmp(argv[1], "few") == 0) {
         check_address_space();
         check_tags(5, 4);
+        check_interrupted_waits();
         check_at_once(1);
-        return finish(4);
+        return finish(5);
     }
     check_address_space();
     check_tags(400, 100);
+    check_interrupted_waits();
     check_at_once(1);
     check_at_once(THREADS);
     check_options();
     check_limits();
-    return finish(30);
+    return finish(31);
 }
