@@ -92,6 +92,15 @@ read_address() {
 
 # ---- what is built here
 
+# Whether git tracks no file in a folder `out`. Such a file would pass for one that was built here.
+tracks_nothing_built() {
+    why='git does not say what it tracks'
+    tracked=$(git -c safe.directory='*' -C "$root" ls-files -- ':(glob)**/out' ':(glob)**/out/**' 2>/dev/null) \
+        || [ ! -e "$root/.git" ] || return
+    why="git may not track $tracked, which would pass for a built file"
+    [ -z "$tracked" ]
+}
+
 # What a build of crates is made from: `line_of NAME..` leaves in `line` the hash of their sources and, if there is a
 # kit, the output of `rt version`.
 line_of() {
@@ -122,7 +131,7 @@ note_built() {
 # is one, by this kit: `is_built CRATE FILE`.
 is_built() {
     why="$2 is not built"
-    [ -e "$2" ] && line_of "$1" && find_note "$2" || return
+    [ -e "$2" ] && tracks_nothing_built && line_of "$1" && find_note "$2" || return
     why="$2 is older than its sources" noted='' noted_of=''
     ! [ -e "$note" ] || { read -r noted && read -r noted_of; } <"$note"
     case $noted_of:$noted in "$of:$line" | "$of:$line "*) ;; *) return 1 ;; esac

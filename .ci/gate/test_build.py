@@ -113,6 +113,17 @@ def test_a_script_of_the_build_runs_no_module_that_lies_beside_it(tmp_path, scri
     assert names and came.returncode != 0 and 'planted' not in came.stdout, came.stdout
 
 
+def test_a_tracked_file_in_a_folder_of_built_files_is_rejected(tmp_path):
+    """It would pass for a file that was built here."""
+    shutil.copytree(TOP / 'build', tmp_path / 'build')
+    (tmp_path / 'bindings/out/x86_64').mkdir(parents=True)
+    (tmp_path / 'bindings/out/x86_64/made').touch()
+    script = 'git init -q && git add -f bindings && build/check_release; echo $?; build/make; echo $?'
+    came = run('sh', '-c', script, cwd=tmp_path)
+    why = 'git may not track bindings/out/x86_64/made, which would pass for a built file'
+    assert came.stdout == f'{why}\n2\nbuild/make: {why}\n1\n'
+
+
 def test_an_empty_release_is_rejected(tmp_path):
     shutil.copytree(TOP / 'build', tmp_path / 'build')
     copy_with(tmp_path, 'release/MANIFEST', lambda text: '')

@@ -2,9 +2,10 @@
 and the generated text about the prover's reports."""
 
 import re
+import shutil
 
 import pytest
-from common import FIRST, HOW_TO_CHANGE, Copy, read, run
+from common import FIRST, HOW_TO_CHANGE, TOP, Copy, read, run
 
 PRESET = '''    /// An example's settings: Argon2id, 64 MiB, 2 passes.
     pub fn example() -> Config<'a>
@@ -127,6 +128,10 @@ def note_that_ci_passed(copy):
 def test_the_tag_is_signed_only_if_nothing_prevents_it(finished):
     assert 'a file is not committed' in sign(finished).stdout
     commit(finished)
+    finished.run('git', 'config', 'status.showUntrackedFiles', 'no')
+    (finished.top / 'new').touch()
+    assert 'a file is not committed' in sign(finished).stdout
+    (finished.top / 'new').unlink()
     assert 'CI has not passed over this commit' in sign(finished).stdout
     for reason, edit in UNSIGNED.items():
         finished.change(*edit)
@@ -138,6 +143,44 @@ def test_the_tag_is_signed_only_if_nothing_prevents_it(finished):
     note_that_ci_passed(finished)
     assert not sign(finished).returncode
     finished.run('git', 'tag', '--verify', finished.run('git', 'tag').strip())
+
+
+def test_the_command_of_the_page_installs_the_packages_that_the_list_names(tmp_path):
+    """It installs no other file of the folder."""
+    command, = re.findall(r'^    sudo (apt install .*)$', read('docs/INSTALL.md'), re.M)
+    names = [f'{name}_1.0.0-1_{machine}.deb' for name, machine in (
+        ('libproved-argon2-1', 'amd64'), ('proved-argon2', 'amd64'), ('python3-proved-argon2', 'all'))]
+    others = 'proved-argon2_1.0.0-1_arm64.deb', 'proved-libargon2-1_1.0.0-1_amd64.deb', 'proved-argon2-1.0.0.tgz'
+    for name in *names, *others:
+        (tmp_path / name).touch()
+    script = f'dpkg() {{ echo amd64; }}; apt() {{ echo "$@"; }}; sha256sum * >SHA256SUMS; touch added-"$0"; {command}'
+    came = run('bash', '-euc', script, 'proved-argon2_9-1_all.deb', cwd=tmp_path)
+    assert came.stdout.split() == ['install', *(f'./{name}' for name in sorted(names))]
+
+
+@pytest.mark.parametrize('meanwhile, is_noted', [
+    ('true', True), ('git commit -qm later --allow-empty', False), ('touch new', False)])
+def test_ci_notes_only_the_commit_that_it_tested(tmp_path, monkeypatch, meanwhile, is_noted):
+    """Nobody else has committed, or left a file, while it ran. Such a commit would get a signed tag."""
+    for folder in '.ci/shared', '.ci/gate':
+        shutil.copytree(TOP / folder, tmp_path / folder, ignore=shutil.ignore_patterns('test_*', '__pycache__'))
+    for file in '.ci/run', 'setup.cfg', '.gitignore':
+        shutil.copy(TOP / file, tmp_path / file)
+    functions = read('.ci/CMakeLists.txt').partition('\n# ----')[0]
+    for file, text in {'build/clean': '#!/bin/sh\n', '.ci/gate/packages': '#!/bin/sh\n', '.ci/tests.txt': 'one | 1\n',
+                       '.ci/CMakeLists.txt': f'{functions}\njudge(one QUICK COMMAND sh -c "{meanwhile}")\n'}.items():
+        (tmp_path / file).parent.mkdir(exist_ok=True)
+        (tmp_path / file).write_text(text, encoding='utf-8')
+        (tmp_path / file).chmod(0o755)
+    monkeypatch.setenv('CI', 'full')
+    for role in 'AUTHOR', 'COMMITTER':
+        monkeypatch.setenv(f'GIT_{role}_NAME', PUBLISHER)
+        monkeypatch.setenv(f'GIT_{role}_EMAIL', CONTACT)
+    made = 'git init -q; git config status.showUntrackedFiles no; git add -A; git commit -qm first; git rev-parse HEAD'
+    first = run('sh', '-ec', made, cwd=tmp_path).stdout
+    assert run('.ci/run', cwd=tmp_path).stdout.endswith('\n1 passed, 0 failed, 0 skipped\n')
+    noted = tmp_path / 'out/passed'
+    assert noted.exists() == is_noted and (not is_noted or noted.read_text(encoding='utf-8') == first)
 
 
 def test_only_a_signature_over_the_checksums_passes_the_command_of_the_page(finished):

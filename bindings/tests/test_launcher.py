@@ -112,6 +112,13 @@ def test_only_a_changed_source_kit_or_program_causes_a_build(tree, change, count
     tree.builds(0)
 
 
+def test_a_tracked_program_is_not_run(tree):
+    """Whoever commits it can also note that it was built from these sources."""
+    run("git", "init", "-q", cwd=tree.folder)
+    run("git", "add", "-f", "bindings/out", cwd=tree.folder)
+    refuses(70, "git may not track bindings/out/x86-64-v", tree.folder / "argon2", "hash", env=tree.environment)
+
+
 def test_cdpath_leads_to_no_build(tree):
     """With it, `cd` prints the folder that it finds there."""
     own = {**tree.environment, "CDPATH": tree.folder.parent}
@@ -151,6 +158,17 @@ def clone(built, tmp_path_factory):
     (folder / "release/MANIFEST").write_text(run(folder / "build/check_release", "--sources") + sums)
     run(folder / "argon2", *CHEAP)
     return folder
+
+
+def test_the_released_program_runs_even_if_another_one_is_noted_as_built(clone):
+    for build in PROVED:
+        other = clone / "bindings/out" / build / "argon2_tool"
+        other.parent.mkdir(parents=True)
+        write_program(other, "#!/bin/sh\necho another program\n")
+        run("sh", "-euc", 'root=$0; . build/current.sh; line_of argon2_tool; note_built argon2_tool "$line" "$1"', clone,
+            other)
+    assert "another program" not in run(clone / "argon2", *CHEAP)
+    shutil.rmtree(clone / "bindings/out")
 
 
 def test_a_warm_call_takes_at_most_100_milliseconds_more_than_the_program(clone):
