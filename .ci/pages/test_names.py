@@ -6,7 +6,7 @@
   in the file to which it is a link.
 
 A page is named by a link, except in code and in pages that are packed without the others. No page and no comment of
-specs/ has a word that CONTRIBUTING.md replaces. All pages together have at most WORDS words.
+specs/ has a word that CONTRIBUTING.md replaces.
 """
 
 import os
@@ -16,13 +16,12 @@ from functools import cache
 from pathlib import Path
 
 import pytest
-from common import HOW_TO_CHANGE, PROMISES, TOP, files, read, run
+from common import HOW_TO_CHANGE, TOP, files, read, run
 
-WORDS = 30_000
 ENDINGS = {'.rt', '.antt', '.md', '.txt', '.py', '.rs', '.c', '.h', '.sh', '.edit', '.svg', '.toml', '.in'}
 FILES = files()
 # The pages, and handwritten lists that follow the same rules.
-PAGES = [*(file for file in FILES if file.endswith('.md')), PROMISES, 'docs/promises-open.txt']
+PAGES = [*(file for file in FILES if file.endswith('.md')), 'docs/promises-open.txt']
 PATHS = {f'/{path}' for file in FILES for path in (file, *map(str, Path(file).parents))}
 # Names of things elsewhere: in upstream's source, in rust-argon2, in the toolchain, or where it is installed.
 ELSEWHERE = re.compile(r'[/~$]|.*(?:\bout/|NAME|CRATE)|(?:rattle/logic|Denote/|Prog/|antt/)|(?:opt\.c|ref\.c|'
@@ -149,8 +148,3 @@ def test_a_text_that_names_something_missing_is_rejected(text):
 def test_comments_of_definitions_avoid_the_misleading_words():
     comments = {file: '\n'.join(re.findall(r'^ *-- (.*)$', read(file), re.M)) for file in files('crates/*/specs/**')}
     assert comments and not [file for file, text in comments.items() if avoided().search(NAMED.sub('', text))]
-
-
-def test_all_pages_together_have_at_most_the_allowed_words():
-    pages = [page for page in files('*.md', 'docs/*.md') if page != 'CHANGELOG.md']
-    assert pages and sum(len(read(page).split()) for page in pages) <= WORDS

@@ -5,23 +5,10 @@ import shutil
 from pathlib import Path
 
 import pytest
-import vectors
-from common import FIRST, PROMISES, REPORTS, TOP, Copy, files, read, rows
+from common import FIRST, REPORTS, TOP, Copy, files, read, rows
 from shared.sources import Sources, edits
 
 BLOCK = re.compile(r'^```(rust|antt)\n(.*?)^```$', re.M | re.S)
-# In the picture of the layers: a way in, and a layer.
-WAY = re.compile(r'<!-- (.*) -->\n<text x="(\d+)\.5" y="\d+" class="head">')
-LAYER = re.compile(r'<!-- (.*) -->\n<g transform=.*><text x="8" y="14" class="own">.*\n(.*)</g>')
-PROMISED = {'argon2_blocks', 'argon2_standard', 'argon2_memory', 'argon2_fill', 'argon2_text', 'argon2',
-            'argon2_commands', 'argon2_tool', 'argon2_c'}
-
-# Unexpected forms of the code, which the page of decisions has to name.
-FORMS = (
-    '`Memory::writes` counts only `Segment::write` and `Memory::set`', 'computes the hash once for both lines',
-    'stops reading its input as soon as', '`run` is in `argon2_commands`', '`./argon2` writes lines of its own',
-    '`encode_slice`', '`itoa`', '`arrayvec`', '`hex` also decodes', '`anyhow`',
-    'Tests deny memory in calls with four lanes', "A test of the workers' `Gate` fills three passes")
 
 
 def test_generated_parts_are_current(tmp_path):
@@ -33,11 +20,6 @@ def test_pieces_of_rattle_are_in_the_examples(page):
     examples = ''.join(map(read, files('crates/argon2_examples/src/*.rt', 'crates/argon2_examples/specs/*.antt')))
     pieces = [piece for _, piece in BLOCK.findall(read(page))]
     assert pieces and not [piece for piece in pieces if piece not in examples]
-
-
-def test_decisions_name_each_unexpected_form():
-    page = ' '.join(read('docs/DECISIONS.md').split())
-    assert [form for form in FORMS if form not in page] == []
 
 
 def test_first_calls_are_those_of_each_languages_page():
@@ -62,44 +44,11 @@ def test_pages_name_the_newest_c_library_that_release_needs(page):
     assert {*map(int, named)} == {max(asked)}
 
 
-def test_each_layer_of_the_picture_names_the_calls_or_files_behind_it():
-    """Each word of the picture: a call of this way in proves it, or a file checks or tests it."""
-    picture, there = read('docs/what-is-proved.svg'), {*files(), *(path for path, *_ in rows(TOP / PROMISES))}
-    ways = {int(x) - 27: begun.split() for begun, x in WAY.findall(picture)}
-    layers = [(shown.split(), re.findall(r'#(\w+)" x="(\d+)"', words)) for shown, words in LAYER.findall(picture)]
-    assert len(ways) == picture.count('"head"') and len(layers) == picture.count('"own"') > 10
-    assert sum(len(words) for _, words in layers) == 92
-    for shown, words in layers:
-        calls, said = [path for path in shown if '::' in path], {word for word, _ in words}
-        assert there.issuperset(shown) and all(f'<g id="{word}">' in picture for word in said)
-        assert bool(calls) == ('proved' in said) and (calls != shown or said.isdisjoint({'checked', 'tested'}))
-        assert 'checked' not in said or '.ci/machine_code/test_machine_code.py' in shown
-        assert ('model' in said) == ('argon2_c::any_order_of_steps' in calls)
-        assert (said == {'trusted'}) == (shown == ['docs/CLAIMS.md'])
-        assert all(any(call.startswith((*ways[int(x)], 'argon2::parts::')) for call in calls)
-                   for word, x in words if word == 'proved')
-
-
 def test_each_mutant_fits_and_names_what_it_breaks():
     every = edits(Sources())
     wrong = {(edit.crate, edit.name) for edit in every if not edit.is_equal}
     assert wrong and not [(edit.crate, edit.name, edit.fault) for edit in every
                           if edit.fault or edit.is_equal == bool(edit.goals) or (edit.crate, edit.name) not in wrong]
-
-
-def test_each_public_call_has_a_promise_and_its_tests():
-    sources, lines = Sources(), [line for line in rows(TOP / PROMISES) if len(line) > 1]
-    calls = {function.path for function in sources.functions if function.path and function.crate in PROMISED}
-    derived = {f'{what} for {"::".join(path)}' for at, path in sources.places.items() if at[:-1] in sources.modules
-               for what in sources.modules[at[:-1]].types.get(at[-1], '').split(', ')}
-    promises = {path: promise for path, promise, *_ in lines}
-    assert len(promises) == len(lines) and not calls - promises.keys() and not promises.keys() - calls - derived
-    shared = {promise[3:] for promise in promises.values() if promise.startswith('as ')}
-    assert shared and not [path for path in shared if promises.get(path, 'as ').startswith('as ')]
-    asked = {question.split(' ')[0] for question, _ in vectors.questions()}
-    programs = {path.name for path in TOP.glob('bindings/c/tests/*.c')}
-    shown = {name for _, _, *names in lines for name in ' '.join(names).split()}
-    assert shown and not shown - {*sources.tests, *asked, *programs}
 
 
 def test_each_open_promise_has_its_tests():
