@@ -1,25 +1,25 @@
 -- The team of the C driver makes a run of the steps.
-use Rattle.std.proofs.Common.{◌≡◌, ℕ, zero, suc, ◌-◌, ◌*◌, ◌%◌, ◌<◌, ◌≤◌, Bool, false, List, length, Ok, Err, refl, sym, ◌∙◌, subst, ap, arith, mod-lt}
+use Rattle.std.proofs.Common.{◌≡◌, ℕ, zero, suc, ◌-◌, ◌*◌, ◌%◌, ◌<◌, ◌≤◌, List, length, Ok, Err, refl, sym, ◌∙◌, subst, ap, arith, mod-lt}
 use Rattle.argon2_standard.specs.Standard.Tag.{tag_of}
 use Rattle.argon2_c.specs.Jobs.{setting_of_job}
 use Rattle.argon2_c.specs.Steps.{Finishes, Verifies}
 use Rattle.argon2_c.specs.Runs.{IsMade, IsRun, slice_at}
 use Rattle.argon2_c.specs.Team.{IsApart, IsStep, Team}
-use Rattle.argon2_c.specs.Driver.{EveryTeamGivesTheTag, EveryTeamGivesTheVerdict, NoThreadWorksAfterTheEnd, EveryPoolRanEachTaskOnce, EveryCallReturns, IsFilled, KeepsSlices, FillsSegment, segment_in_step, work_of}
+use Rattle.argon2_c.specs.Driver.{EveryTeamGivesTheTag, EveryTeamGivesTheVerdict, NoThreadWorksAfterTheEnd, EveryCallReturns, IsFilled, KeepsSlices, FillsSegment, segment_in_step, work_of}
 use Rattle.argon2_c.specs.declared.jobs.CallerJob.{CallerJob}
 use Rattle.argon2_c.specs.declared.errors.CallError.TheVariants.{Mismatch}
 use Rattle.argon2_c.proofs.Runs.{made_match, made_mismatch, made_tag, same_at}
-use Rattle.argon2_c.proofs.Team.{every_step_is_whole, nobody_works_after_the_end, each_task_ran_once}
+use Rattle.argon2_c.proofs.Team.{every_step_is_whole, nobody_works_after_the_end}
 use Rattle.argon2_c.proofs.Threads.{all_threads_end, some_thread_can_go_on, threads_are_a_team}
 use Rattle.argon2_c.proofs.Endings.{every_run_ends}
 
-module _ (job : CallerJob) (tasks : ℕ) (has_pool : Bool) (some : 0 < tasks) where
+module _ (job : CallerJob) (tasks : ℕ) (some : 0 < tasks) where
   seen : (n l : ℕ) (before middle : List (List (List ℕ))) (old new : List (List ℕ)) → KeepsSlices n before middle
       → FillsSegment job n l middle old new → FillsSegment job n l before old new
   seen zero l before middle old new keeps fills = fills
   seen (suc n) l before middle old new keeps fills = rw (sym keeps.others) fills
 
-  pub apart : IsApart (work_of job tasks has_pool)
+  pub apart : IsApart (work_of job tasks)
   apart = record {
     workers = λ l fits. mod-lt l some;
     none = λ n m. record { others = refl; four = refl; long = λ k. refl };
@@ -31,15 +31,15 @@ module _ (job : CallerJob) (tasks : ℕ) (has_pool : Bool) (some : 0 < tasks) wh
     seen = seen;
   }
 
-module _ (job : CallerJob) (tasks : ℕ) (has_pool : Bool) (s : Team (work_of job tasks has_pool)) (filled : IsFilled job tasks has_pool s) where
+module _ (job : CallerJob) (tasks : ℕ) (s : Team (work_of job tasks)) (filled : IsFilled job tasks s) where
   abbrev last : ℕ
   last = 4 * job.passes
 
-  whole : (n : ℕ) → n < s.step → IsStep (work_of job tasks has_pool) n (s.before n) (s.before (suc n))
-  whole = (every_step_is_whole (work_of job tasks has_pool) (apart job tasks has_pool filled.some) s filled.reached).0
+  whole : (n : ℕ) → n < s.step → IsStep (work_of job tasks) n (s.before n) (s.before (suc n))
+  whole = (every_step_is_whole (work_of job tasks) (apart job tasks filled.some) s filled.reached).0
 
   rest : s.memory ≡ s.before (suc last)
-  rest = (every_step_is_whole (work_of job tasks has_pool) (apart job tasks has_pool filled.some) s filled.reached).1 filled.all
+  rest = (every_step_is_whole (work_of job tasks) (apart job tasks filled.some) s filled.reached).1 filled.all
 
   four : (n : ℕ) → n ≤ s.step → length (s.before n) ≡ 4
   four zero h = filled.four
@@ -81,15 +81,15 @@ module _ (job : CallerJob) (tasks : ℕ) (has_pool : Bool) (s : Team (work_of jo
   }
 
 pub every_team_gives_the_tag : EveryTeamGivesTheTag
-every_team_gives_the_tag pwd salt config len job tasks has_pool s from filled =
+every_team_gives_the_tag pwd salt config len job tasks s from filled =
     let Gives : CallerJob → Type 0 = λ j. IsMade pwd salt config len j → (slices : ℕ → List (List (List ℕ))) → IsRun j slices → (old new : List ℕ)
     → Finishes (setting_of_job j) j.hash_length (slice_at (slices (4 * j.passes)) 3) old new (Ok tt) → new ≡ tag_of pwd salt config len in
     let gives : Gives job = subst Gives (sym from.made) (λ from slices run. made_tag pwd salt config len from slices run) in
-    λ old new finishes. gives from (slices job tasks has_pool s filled) (run job tasks has_pool s filled) old new
-    (subst (λ m. Finishes (setting_of_job job) job.hash_length (slice_at m 3) old new (Ok tt)) (ended job tasks has_pool s filled) finishes)
+    λ old new finishes. gives from (slices job tasks s filled) (run job tasks s filled) old new
+    (subst (λ m. Finishes (setting_of_job job) job.hash_length (slice_at m 3) old new (Ok tt)) (ended job tasks s filled) finishes)
 
 pub every_team_gives_the_verdict : EveryTeamGivesTheVerdict
-every_team_gives_the_verdict pwd salt config len job tasks has_pool s from filled =
+every_team_gives_the_verdict pwd salt config len job tasks s from filled =
     let Gives : CallerJob → Type 0 = λ j. IsMade pwd salt config len j → (slices : ℕ → List (List (List ℕ))) → IsRun j slices → (hash old new : List ℕ)
     → (Verifies (setting_of_job j) j.hash_length (slice_at (slices (4 * j.passes)) 3) hash old new (Ok tt) → hash ≡ tag_of pwd salt config len)
     × (Verifies (setting_of_job j) j.hash_length (slice_at (slices (4 * j.passes)) 3) hash old new (Err Mismatch) → hash ≡ tag_of pwd salt config len → ⊥) in
@@ -97,21 +97,18 @@ every_team_gives_the_verdict pwd salt config len job tasks has_pool s from fille
     (made_match pwd salt config len from slices run hash old new, made_mismatch pwd salt config len from slices run hash old new)) in
     λ hash old new. subst (λ m. (Verifies (setting_of_job job) job.hash_length (slice_at m 3) hash old new (Ok tt) → hash ≡ tag_of pwd salt config len)
     × (Verifies (setting_of_job job) job.hash_length (slice_at m 3) hash old new (Err Mismatch) → hash ≡ tag_of pwd salt config len → ⊥))
-    (sym (ended job tasks has_pool s filled)) (gives from (slices job tasks has_pool s filled) (run job tasks has_pool s filled) hash old new)
+    (sym (ended job tasks s filled)) (gives from (slices job tasks s filled) (run job tasks s filled) hash old new)
 
 pub no_thread_works_after_the_end : NoThreadWorksAfterTheEnd
-no_thread_works_after_the_end job tasks has_pool some =
-    nobody_works_after_the_end (work_of job tasks has_pool) (apart job tasks has_pool some)
-
-pub every_pool_ran_each_task_once : EveryPoolRanEachTaskOnce
-every_pool_ran_each_task_once job tasks has_pool some = each_task_ran_once (work_of job tasks has_pool) (apart job tasks has_pool some)
+no_thread_works_after_the_end job tasks some =
+    nobody_works_after_the_end (work_of job tasks) (apart job tasks some)
 
 pub every_call_returns : EveryCallReturns
 every_call_returns job tasks members is_long some =
-    let is = apart job tasks false some in
+    let is = apart job tasks some in
     record {
-      team = threads_are_a_team (work_of job tasks false) members is_long is;
-      goes_on = some_thread_can_go_on (work_of job tasks false) members is_long is;
-      ends = every_run_ends (work_of job tasks false) members is_long is;
-      joined = all_threads_end (work_of job tasks false) members is_long is;
+      team = threads_are_a_team (work_of job tasks) members is_long is;
+      goes_on = some_thread_can_go_on (work_of job tasks) members is_long is;
+      ends = every_run_ends (work_of job tasks) members is_long is;
+      joined = all_threads_end (work_of job tasks) members is_long is;
     }

@@ -17,7 +17,6 @@ module _ (w : T.Work) where
     pub most : (j : ℕ) → woken j ≤ suc step
     pub wakes : (j : ℕ) → woken j ≤ w.steps
     pub behind : (j : ℕ) → entered j ≤ woken j
-    pub pool : w.has_pool ≡ true → (j : ℕ) → woken j ≡ 0
 
   pub record States (step : ℕ) (is_over : Bool) (entered state : ℕ → ℕ) : Type 0 where
     pub least : (i : ℕ) → i < w.tasks → 2 * step ≤ state i
@@ -25,11 +24,6 @@ module _ (w : T.Work) where
     pub end : step ≡ w.steps → (i : ℕ) → i < w.tasks → state i ≡ 2 * step
     pub quiet : is_over ≡ true → (i : ℕ) → i < w.tasks → state i ≢ 2 * step + 1
     pub passed : is_over ≡ true → (i j : ℕ) → i < w.tasks → 2 * entered j ≤ state i
-
-  pub record Tasks (step : ℕ) (is_astray : Bool) (runs state : ℕ → ℕ) : Type 0 where
-    pub free : w.has_pool ≡ true → is_astray ≡ false → (i : ℕ) → i < w.tasks → state i ≡ 2 * step → runs i ≡ 0
-    pub claimed : w.has_pool ≡ true → is_astray ≡ false → (i : ℕ) → i < w.tasks → 2 * step < state i → runs i ≡ 1
-    pub none : w.has_pool ≡ true → is_astray ≡ false → (i : ℕ) → w.tasks ≤ i → runs i ≡ 0
 
   pub record Lanes (step : ℕ) (state code : ℕ → ℕ) (memory : w.Memory) (claimed : ℕ → w.Segment) (before : w.Memory) : Type 0 where
     pub keeps : w.Keeps step before memory
@@ -44,7 +38,6 @@ module _ (w : T.Work) where
     pub past : (n : ℕ) → n < s.step → T.IsStep w n (s.before n) (s.before (suc n))
     pub counts : Counts s.step s.woken s.entered
     pub states : States s.step s.is_over s.entered s.state
-    pub tasks : Tasks s.step s.is_astray s.runs s.state
     pub lanes : Lanes s.step s.state s.code s.memory s.claimed (s.before s.step)
 
   module _ (apart : T.IsApart w) where
@@ -56,7 +49,6 @@ module _ (w : T.Work) where
         most = λ j. omega (arith, b.woken j);
         wakes = λ j. omega (arith, b.woken j);
         behind = λ j. omega (arith, b.entered j);
-        pool = λ pool j. b.woken j;
       };
       states = record {
         least = λ i exists. omega (arith, b.step, b.state i);
@@ -64,11 +56,6 @@ module _ (w : T.Work) where
         end = λ e i exists. omega (arith, b.step, b.state i);
         quiet = λ over i exists. absurd (let e = b.goes_on in cc);
         passed = λ over i j exists. absurd (let e = b.goes_on in cc);
-      };
-      tasks = record {
-        free = λ pool right i exists e. b.runs i;
-        claimed = λ pool right i exists e. absurd (omega (arith, e, b.step, b.state i));
-        none = λ pool right i exists. b.runs i;
       };
       lanes = record {
         keeps = rw (b.step, b.before) (apart.none 0 s.memory);
@@ -80,7 +67,7 @@ module _ (w : T.Work) where
     }
 
     module _ (s : T.Team w) (inv : Holds s) where
-      open inv use {counts, states, tasks, lanes}
+      open inv use {counts, states, lanes}
 
       wakes_kept : (j : ℕ) → T.Can w s (T.Wakes j) → Holds (T.after w s (T.Wakes j))
       wakes_kept j can = record {
@@ -88,21 +75,19 @@ module _ (w : T.Work) where
         past = inv.past;
         counts = record {
           most = λ k. elim (eqb_tells k j) [
-            | inl x ↦ omega (arith, hit s.woken j (suc (s.woken j)) k x.0, can.2)
+            | inl x ↦ omega (arith, hit s.woken j (suc (s.woken j)) k x.0, can.1)
             | inr x ↦ omega (arith, miss s.woken j (suc (s.woken j)) k x.0, counts.most k)
           ];
           wakes = λ k. elim (eqb_tells k j) [
-            | inl x ↦ omega (arith, hit s.woken j (suc (s.woken j)) k x.0, can.2, can.1.1)
+            | inl x ↦ omega (arith, hit s.woken j (suc (s.woken j)) k x.0, can.1, can.0.1)
             | inr x ↦ omega (arith, miss s.woken j (suc (s.woken j)) k x.0, counts.wakes k)
           ];
           behind = λ k. elim (eqb_tells k j) [
             | inl x ↦ let e = ap s.entered x.1 in omega (arith, e, hit s.woken j (suc (s.woken j)) k x.0, counts.behind j)
             | inr x ↦ omega (arith, miss s.woken j (suc (s.woken j)) k x.0, counts.behind k)
           ];
-          pool = λ pool k. absurd (let e = can.0 in cc);
         };
         states = states;
-        tasks = tasks;
         lanes = lanes;
       }
 
@@ -114,19 +99,17 @@ module _ (w : T.Work) where
           most = counts.most;
           wakes = counts.wakes;
           behind = λ k. elim (eqb_tells k j) [
-            | inl x ↦ let e = ap s.woken x.1 in omega (arith, e, hit s.entered j (suc (s.entered j)) k x.0, can.2)
+            | inl x ↦ let e = ap s.woken x.1 in omega (arith, e, hit s.entered j (suc (s.entered j)) k x.0, can.1)
             | inr x ↦ omega (arith, miss s.entered j (suc (s.entered j)) k x.0, counts.behind k)
           ];
-          pool = counts.pool;
         };
         states = record {
           least = states.least;
           most = states.most;
           end = states.end;
           quiet = states.quiet;
-          passed = λ over. absurd (let e = can.1 in cc);
+          passed = λ over. absurd (let e = can.0 in cc);
         };
-        tasks = tasks;
         lanes = lanes;
       }
 
@@ -138,8 +121,8 @@ module _ (w : T.Work) where
         at_unclaimed : (k : ℕ) → eqb k i ≡ false → T.updated s.state i (2 * s.step + 1) k ≡ s.state k
         at_unclaimed k e = miss s.state i (2 * s.step + 1) k e
 
-        claim_kept : (runs : ℕ → ℕ) → Tasks s.step s.is_astray runs (T.claims w s s.step i).state → Holds (record (T.claims w s s.step i) { runs = runs })
-        claim_kept runs counted = record {
+        claim_kept : Holds (T.claims w s s.step i)
+        claim_kept = record {
           few = inv.few;
           past = inv.past;
           counts = counts;
@@ -156,7 +139,6 @@ module _ (w : T.Work) where
             quiet = λ over. absurd (cc);
             passed = λ over. absurd (cc);
           };
-          tasks = counted;
           lanes = record {
             keeps = lanes.keeps;
             free = λ l fits e. elim (eqb_tells (w.worker l) i) [
@@ -178,60 +160,30 @@ module _ (w : T.Work) where
       -- a thread claims a part only of the present step, though it counts steps itself
       module _ (n i : ℕ) (can : T.Can w s (T.Claims n i)) where
         pub present : n ≡ s.step
-        present = elim can.1 [
+        present = elim can.0 [
           | inl e ↦ e.2
-          | inr x ↦ omega (arith, x.1, counts.behind x.0, counts.most x.0, states.least i can.2.exists, can.2.free)
+          | inr x ↦ omega (arith, x.1, counts.behind x.0, counts.most x.0, states.least i can.1.exists, can.1.free)
         ]
 
         not_over : (b : Bool) → s.is_over ≡ b → (j : ℕ) → suc n ≡ s.entered j → b ≡ false
         not_over false e j own = refl
-        not_over true e j own = absurd (let p = states.passed e i j can.2.exists in omega (arith, p, own, can.2.free))
+        not_over true e j own = absurd (let p = states.passed e i j can.1.exists in omega (arith, p, own, can.1.free))
 
         goes_on : s.is_over ≡ false
-        goes_on = elim can.1 [
+        goes_on = elim can.0 [
           | inl e ↦ e.0
           | inr x ↦ not_over s.is_over refl x.0 x.1
         ]
 
         more : s.step < w.steps
-        more = elim can.1 [
+        more = elim can.0 [
           | inl e ↦ e.1
           | inr x ↦ omega (arith, present, x.1, counts.behind x.0, counts.wakes x.0)
         ]
 
         claims_kept : Holds (T.after w s (T.Claims n i))
         claims_kept = subst (λ (k : ℕ). Holds (T.claims w s k i)) (sym present) (claim_kept i
-            (record { exists = can.2.exists; free = omega (arith, can.2.free, present) }) goes_on more s.runs (record {
-              free = λ pool. absurd (let e = can.0 in cc);
-              claimed = λ pool. absurd (let e = can.0 in cc);
-              none = λ pool. absurd (let e = can.0 in cc);
-            }))
-
-      runs_kept : (i : ℕ) → T.Can w s (T.Runs i) → Holds (T.after w s (T.Runs i))
-      runs_kept i can = claim_kept i can.2 can.1.0 can.1.1 (T.updated s.runs i (suc (s.runs i))) (record {
-        free = λ pool right k exists e. elim (eqb_tells k i) [
-          | inl x ↦ absurd (omega (arith, e, hit s.state i (2 * s.step + 1) k x.0))
-          | inr x ↦ miss s.runs i (suc (s.runs i)) k x.0 ∙ tasks.free pool right k exists (omega (arith, e, miss s.state i (2 * s.step + 1) k x.0))
-        ];
-        claimed = λ pool right k exists e. elim (eqb_tells k i) [
-          | inl x ↦ hit s.runs i (suc (s.runs i)) k x.0 ∙ ap suc (tasks.free pool right i can.2.exists can.2.free)
-          | inr x ↦ miss s.runs i (suc (s.runs i)) k x.0 ∙ tasks.claimed pool right k exists (omega (arith, e, miss s.state i (2 * s.step + 1) k x.0))
-        ];
-        none = λ pool right k above. elim (eqb_tells k i) [
-          | inl x ↦ absurd (omega (arith, x.1, above, can.2.exists))
-          | inr x ↦ miss s.runs i (suc (s.runs i)) k x.0 ∙ tasks.none pool right k above
-        ];
-      })
-
-      strays_kept : (i : ℕ) → T.Can w s (T.Strays i) → Holds (T.after w s (T.Strays i))
-      strays_kept i can = record {
-        few = inv.few;
-        past = inv.past;
-        counts = counts;
-        states = states;
-        tasks = record { free = λ pool right. absurd (cc); claimed = λ pool right. absurd (cc); none = λ pool right. absurd (cc) };
-        lanes = lanes;
-      }
+            (record { exists = can.1.exists; free = omega (arith, can.1.free, present) }) goes_on more)
 
       -- ---- work
 
@@ -262,7 +214,6 @@ module _ (w : T.Work) where
           past = inv.past;
           counts = counts;
           states = states;
-          tasks = tasks;
           lanes = record {
             keeps = apart.further s.step (s.before s.step) s.memory memory lanes.keeps (subst (λ (k : ℕ). w.Keeps k s.memory memory) now can.keeps);
             free = λ l fits e. other_lane l (is_other l (2 * s.step) e (λ e. omega (arith, e))) ∙ lanes.free l fits e;
@@ -309,17 +260,6 @@ module _ (w : T.Work) where
             end = λ e. absurd (before_the_end n i can e);
             quiet = λ over. absurd (not_over_at_work n i can over);
             passed = λ over. absurd (not_over_at_work n i can over);
-          };
-          tasks = record {
-            free = λ pool right k exists e. elim (eqb_tells k i) [
-              | inl x ↦ absurd (omega (arith, e, at_ended k x.0))
-              | inr x ↦ tasks.free pool right k exists (omega (arith, e, at_rest k x.0))
-            ];
-            claimed = λ pool right k exists e. elim (eqb_tells k i) [
-              | inl x ↦ let same = ap s.state x.1 in tasks.claimed pool right k exists (omega (arith, same, can.at_work, ended))
-              | inr x ↦ tasks.claimed pool right k exists (omega (arith, e, at_rest k x.0))
-            ];
-            none = tasks.none;
           };
           lanes = record {
             keeps = lanes.keeps;
@@ -374,7 +314,6 @@ module _ (w : T.Work) where
             most = λ j. omega (arith, counts.most j);
             wakes = counts.wakes;
             behind = counts.behind;
-            pool = counts.pool;
           };
           states = record {
             least = λ i exists. omega (arith, can.through i exists);
@@ -382,11 +321,6 @@ module _ (w : T.Work) where
             end = λ e i exists. omega (arith, can.through i exists);
             quiet = λ over. absurd (let e = can.goes_on in cc);
             passed = λ over. absurd (let e = can.goes_on in cc);
-          };
-          tasks = record {
-            free = λ pool right i exists e. refl;
-            claimed = λ pool right i exists e. absurd (omega (arith, e, can.through i exists));
-            none = λ pool right i above. refl;
           };
           lanes = record {
             keeps = rw at_next (apart.none (suc s.step) s.memory);
@@ -401,19 +335,13 @@ module _ (w : T.Work) where
         stops_quiet : (i : ℕ) → i < w.tasks → s.state i ≢ 2 * s.step + 1
         stops_quiet i exists = elim can.why [
           | inl e ↦ λ h. omega (arith, states.end e i exists, h)
-          | inr x ↦ elim x [
-            | inl through ↦ λ h. omega (arith, through i exists, h)
-            | inr pool ↦ λ h. (let idle = pool.1 i exists in omega (arith, idle, h))
-          ]
+          | inr through ↦ λ h. omega (arith, through i exists, h)
         ]
 
         stops_passed : (i j : ℕ) → i < w.tasks → 2 * s.entered j ≤ s.state i
         stops_passed i j exists = elim can.why [
           | inl e ↦ omega (arith, states.end e i exists, counts.behind j, counts.wakes j, e)
-          | inr x ↦ elim x [
-            | inl through ↦ omega (arith, through i exists, counts.behind j, counts.most j)
-            | inr pool ↦ omega (arith, counts.behind j, counts.pool pool.0 j)
-          ]
+          | inr through ↦ omega (arith, through i exists, counts.behind j, counts.most j)
         ]
 
         stops_kept : Holds (T.after w s T.Stops)
@@ -428,7 +356,6 @@ module _ (w : T.Work) where
             quiet = λ over. stops_quiet;
             passed = λ over. stops_passed;
           };
-          tasks = tasks;
           lanes = lanes;
         }
 
@@ -436,8 +363,6 @@ module _ (w : T.Work) where
       kept (T.Wakes j) can = wakes_kept j can
       kept (T.Enters j) can = enters_kept j can
       kept (T.Claims n i) can = claims_kept n i can
-      kept (T.Runs i) can = runs_kept i can
-      kept (T.Strays i) can = strays_kept i can
       kept (T.Writes n i memory) can = writes_kept n i memory can
       kept (T.Completes n i) can = ends_kept n i 0 can.0 (λ e l fits is. can.1 l (omega (arith, fits)) is)
       kept (T.Fails n i code) can = ends_kept n i code can.0 (λ e. absurd (let error = can.1 in omega (arith, error, e)))
@@ -456,8 +381,3 @@ nobody_works_after_the_end w apart s r over n i exists at_work =
     let inv = holds w apart s r in
     let now : n ≡ s.step = omega (arith, inv.states.least i exists, inv.states.most i exists, at_work) in
     inv.states.quiet over i exists (omega (arith, at_work, now))
-
-pub each_task_ran_once : (w : T.Work) → T.IsApart w → T.EachTaskRanOnce w
-each_task_ran_once w apart s r pool can =
-    let inv = holds w apart s r in
-    (λ i exists. inv.tasks.claimed pool can.right i exists (omega (arith, can.through i exists)), λ i above. inv.tasks.none pool can.right i above)

@@ -152,7 +152,6 @@ module _ (w : T.Work) (members : ℕ) (is_long : Bool) where
 
   pub record Holds (s : Threads) : Type 0 where
     pub team : T.IsReached w s.team
-    pub own : w.has_pool ≡ false
     pub fewer : members < w.tasks
     pub caller : Caller s (s.place 0)
     pub member : (j : ℕ) → IsMember j → Member s j (s.place j)
@@ -292,7 +291,6 @@ module _ (w : T.Work) (members : ℕ) (is_long : Bool) where
     holds_at_start : (s : Threads) → H.IsStart w members is_long s → Holds s
     holds_at_start s b = record {
       team = T.starts s.team b.team;
-      own = b.own;
       fewer = b.fewer;
       caller = rw b.caller (record {
         over = b.team.goes_on;
@@ -346,7 +344,6 @@ module _ (w : T.Work) (members : ℕ) (is_long : Bool) where
         quiet_member : Holds t
         quiet_member = record {
           team = team;
-          own = inv.own;
           fewer = inv.fewer;
           caller = let ne : 0 ≢ j = λ e. omega (arith, e, is.0) in
               rw (c.place 0 ne) (caller_moved s t j c ne woken (λ all. absurd (alive (sym was ∙ all j is))) (s.place 0) inv.caller);
@@ -372,7 +369,6 @@ module _ (w : T.Work) (members : ℕ) (is_long : Bool) where
         quiet_caller : Holds t
         quiet_caller = record {
           team = team;
-          own = inv.own;
           fewer = inv.fewer;
           caller = caller;
           member = λ k is_k. let ne : k ≢ 0 = λ e. omega (arith, e, is_k.0) in rw (c.place k ne) (member_moved s t 0 c k is_k ne (s.place k) (inv.member k is_k));
@@ -417,7 +413,7 @@ module _ (w : T.Work) (members : ℕ) (is_long : Bool) where
 
         wakes_kept : Holds wakes_t
         wakes_kept = quiet_caller wakes_t wakes_changes
-            (T.moves s.team (T.after w s.team (T.Wakes k)) (T.Wakes k) inv.team (inv.own, (waking.over, waking.more), omega (arith, woken_k)) refl)
+            (T.moves s.team (T.after w s.team (T.Wakes k)) (T.Wakes k) inv.team ((waking.over, waking.more), omega (arith, woken_k)) refl)
             (H.Waking k) can.0 (λ i. refl) (λ i. refl) (λ part n e. cc) (λ over i n exists claimed far now e. absurd (cc))
             (record {
               over = waking.over;
@@ -761,7 +757,7 @@ module _ (w : T.Work) (members : ℕ) (is_long : Bool) where
         enters_kept : Holds enters_t
         enters_kept = quiet_member enters_t j can.0 enters_changes
             (T.moves s.team (T.after w s.team (T.Enters j)) (T.Enters j) inv.team
-            (inv.own, can.2, let l = not_dismissed (s.place 0) inv.caller in omega (arith, awoken, l)) refl)
+            (can.2, let l = not_dismissed (s.place 0) inv.caller in omega (arith, awoken, l)) refl)
             H.Woken can.1 (λ i. refl) (λ i. refl) (λ i. refl)
             (λ part n e. cc) (λ e. cc) (λ over i n exists claimed far now e. absurd (cc))
             (rw (there s.place j (H.Taking j 0)) (record {
@@ -913,7 +909,7 @@ module _ (w : T.Work) (members : ℕ) (is_long : Bool) where
         own_now = H.own_step w members is_long s j
 
         team_can : T.Can w s.team (T.Claims own_now part)
-        team_can = (inv.own, is_in, record { exists = exists; free = can.3 })
+        team_can = (is_in, record { exists = exists; free = can.3 })
 
         pub now : own_now ≡ s.team.step
         now = P.present w apart s.team facts own_now part team_can
@@ -1023,7 +1019,6 @@ module _ (w : T.Work) (members : ℕ) (is_long : Bool) where
         caller_claims_kept : Holds caller_t
         caller_claims_kept = record {
           team = claims_team 0 part n can caller_exists caller_in;
-          own = inv.own;
           fewer = inv.fewer;
           caller = record {
             going = record { over = caller_taking.going.over; more = caller_taking.going.more; woken = caller_taking.going.woken };
@@ -1094,7 +1089,6 @@ module _ (w : T.Work) (members : ℕ) (is_long : Bool) where
         member_claims_kept : Holds member_t
         member_claims_kept = record {
           team = claims_team j part n can member_exists member_in;
-          own = inv.own;
           fewer = inv.fewer;
           caller = let ne : 0 ≢ j = λ e. omega (arith, e, is.0) in
               rw member_place (caller_moved s member_t j member_changes ne (λ k. refl)
@@ -1163,7 +1157,6 @@ module _ (w : T.Work) (members : ℕ) (is_long : Bool) where
             keeps = can.keeps;
             others = can.others;
           }) refl;
-          own = inv.own;
           fewer = inv.fewer;
           caller = caller_moved s writes_t (suc members) writes_changes (λ e. omega (arith, e)) (λ k. refl) (λ all. all) (s.place 0) inv.caller;
           member = λ k is. member_moved s writes_t (suc members) writes_changes k is (λ e. omega (arith, e, is.1)) (s.place k) (inv.member k is);
@@ -1299,7 +1292,6 @@ module _ (w : T.Work) (members : ℕ) (is_long : Bool) where
         caller_finishes_kept : Holds caller_ft
         caller_finishes_kept = record {
           team = finishes_team 0 part n code can;
-          own = inv.own;
           fewer = inv.fewer;
           caller = record {
             going = record { over = caller_works.going.over; more = caller_works.going.more; woken = caller_works.going.woken };
@@ -1347,7 +1339,6 @@ module _ (w : T.Work) (members : ℕ) (is_long : Bool) where
         member_finishes_kept : Holds member_ft
         member_finishes_kept = record {
           team = finishes_team j part n code can;
-          own = inv.own;
           fewer = inv.fewer;
           caller = let ne : 0 ≢ j = λ e. omega (arith, e, is.0) in
               rw member_fplace (caller_moved s member_ft j member_fchanges ne (λ k. refl)
@@ -1445,28 +1436,11 @@ module _ (w : T.Work) (members : ℕ) (is_long : Bool) where
         ]
 
         team_can_advance : T.CanAdvance w s.team
-        team_can_advance = record { goes_on = going_on.over; more = going_on.more; through = through can.0; ok = can.1; right = never_astray s.team inv.team }
-          where
-            never_astray : (u : T.Team w) → T.IsReached w u → u.is_astray ≡ false
-            never_astray u (T.starts v b) = b.right
-            never_astray u (T.moves v x m r c e) = ap (λ (y : T.Team w). y.is_astray) e ∙ unchanged m c ∙ never_astray v r
-              where
-                unchanged : (m : T.Move w) → T.Can w v m → (T.after w v m).is_astray ≡ v.is_astray
-                unchanged (T.Wakes j) c = refl
-                unchanged (T.Enters j) c = refl
-                unchanged (T.Claims n i) c = refl
-                unchanged (T.Runs i) c = refl
-                unchanged (T.Strays i) c = absurd (let no = inv.own in let yes = c.0 in cc)
-                unchanged (T.Writes n i memory) c = refl
-                unchanged (T.Completes n i) c = refl
-                unchanged (T.Fails n i code) c = refl
-                unchanged T.Advances c = refl
-                unchanged T.Stops c = refl
+        team_can_advance = record { goes_on = going_on.over; more = going_on.more; through = through can.0; ok = can.1 }
 
         advances_kept : Holds advances_t
         advances_kept = record {
           team = T.moves s.team advances_t.team T.Advances inv.team team_can_advance refl;
-          own = inv.own;
           fewer = inv.fewer;
           caller = caller_advanced;
           member = λ k is. rw (elsewhere_now k is) (member_advanced k (s.place k) (inv.member k is));
@@ -1491,9 +1465,9 @@ module _ (w : T.Work) (members : ℕ) (is_long : Bool) where
           | inr at ↦ let c : Caller s H.Left = subst (Caller s) at inv.caller in c.0
         ]
 
-        why : (s.team.step ≡ w.steps) ⊎ T.AreThrough w s.team ⊎ ((w.has_pool ≡ true) × ((i : ℕ) → i < w.tasks → s.team.state i ≢ 2 * s.team.step + 1))
+        why : (s.team.step ≡ w.steps) ⊎ T.AreThrough w s.team
         why = elim can [
-          | inl at ↦ inr (inl (through at))
+          | inl at ↦ inr (through at)
           | inr at ↦ let c : Caller s H.Left = subst (Caller s) at inv.caller in inl c.1
         ]
 
@@ -1543,13 +1517,12 @@ module _ (w : T.Work) (members : ℕ) (is_long : Bool) where
         nobody_works : (i : ℕ) → i < w.tasks → s.team.state i ≢ 2 * s.team.step + 1
         nobody_works i exists e = elim why [
           | inl end ↦ omega (arith, e, facts.states.end end i exists)
-          | inr x ↦ elim x [ inl all ↦ omega (arith, e, all i exists) | inr pool ↦ pool.1 i exists e ]
+          | inr all ↦ omega (arith, e, all i exists)
         ]
 
         stops_kept : Holds stops_t
         stops_kept = record {
           team = T.moves s.team stops_t.team T.Stops inv.team (record { goes_on = not_over_yet; why = why }) refl;
-          own = inv.own;
           fewer = inv.fewer;
           caller = (refl, omega arith, omega arith);
           member = λ k is. rw (place_then k is) (member_stopped k is (s.place k) (inv.member k is));

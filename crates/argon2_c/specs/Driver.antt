@@ -1,13 +1,13 @@
 -- The team of the C driver at work on a job: step 0 begins all lanes, and step n + 1 fills slice number n, counted over all
 -- passes.
-use Rattle.std.specs.Prelude.{◌≡◌, ℕ, zero, suc, ◌*◌, ◌%◌, ◌<◌, Bool, false, List, length, Ok, Err}
+use Rattle.std.specs.Prelude.{◌≡◌, ℕ, zero, suc, ◌*◌, ◌%◌, ◌<◌, Bool, List, length, Ok, Err}
 use Rattle.std.specs.List.{remove}
 use Rattle.argon2_standard.specs.declared.config.Config.{Config}
 use Rattle.argon2_standard.specs.Standard.Tag.{tag_of}
 use Rattle.argon2_c.specs.Jobs.{setting_of_job}
 use Rattle.argon2_c.specs.Steps.{Begins, Finishes, Verifies}
 use Rattle.argon2_c.specs.Runs.{FillsLane, IsMade, segment_of, slice_at}
-use Rattle.argon2_c.specs.Team.{IsReached, Team, Work, NobodyWorksAfterTheEnd, EachTaskRanOnce}
+use Rattle.argon2_c.specs.Team.{IsReached, Team, Work, NobodyWorksAfterTheEnd}
 use Rattle.argon2_c.specs.Threads.{AllThreadsEnd, EveryRunEnds, SomeThreadCanGoOn, ThreadsAreATeam}
 use Rattle.argon2_c.specs.declared.jobs.CallerJob.{CallerJob}
 use Rattle.argon2_c.specs.declared.errors.CallError.TheVariants.{Mismatch}
@@ -32,14 +32,13 @@ FillsSegment job zero lane slices old new = Begins (setting_of_job job) lane old
 FillsSegment job (suc n) lane slices old new = FillsLane job n lane slices old new
 
 -- worker i has the lanes i, i + tasks, i + 2 tasks ..
-abbrev pub work_of : CallerJob → ℕ → Bool → Work
-work_of job tasks has_pool =
+abbrev pub work_of : CallerJob → ℕ → Work
+work_of job tasks =
     record {
       lanes = job.lanes;
       tasks = tasks;
       steps = suc (4 * job.passes);
       worker = λ lane. lane % tasks;
-      has_pool = has_pool;
       Memory = List (List (List ℕ));
       Segment = List (List ℕ);
       segment = segment_in_step job;
@@ -48,40 +47,36 @@ work_of job tasks has_pool =
     }
 
 -- the caller's thread has completed all steps, over four slices of the job's length
-pub record IsFilled (job : CallerJob) (tasks : ℕ) (has_pool : Bool) (s : Team (work_of job tasks has_pool)) : Type 0 where
+pub record IsFilled (job : CallerJob) (tasks : ℕ) (s : Team (work_of job tasks)) : Type 0 where
   pub some : 0 < tasks
-  pub reached : IsReached (work_of job tasks has_pool) s
+  pub reached : IsReached (work_of job tasks) s
   pub four : length (s.before 0) ≡ 4
   pub long : (k : ℕ) → k < 4 → length (slice_at (s.before 0) k) ≡ job.lanes * job.segment_length
   pub all : s.step ≡ suc (4 * job.passes)
 
 -- For any number of lanes, workers and threads, and any order of their moves, `finish` then writes the tag.
 abbrev pub EveryTeamGivesTheTag : Type 0
-EveryTeamGivesTheTag = (pwd salt : List ℕ) (config : Config) (len : ℕ) (job : CallerJob) (tasks : ℕ) (has_pool : Bool)
-    (s : Team (work_of job tasks has_pool)) → IsMade pwd salt config len job → IsFilled job tasks has_pool s
+EveryTeamGivesTheTag = (pwd salt : List ℕ) (config : Config) (len : ℕ) (job : CallerJob) (tasks : ℕ)
+    (s : Team (work_of job tasks)) → IsMade pwd salt config len job → IsFilled job tasks s
     → (old new : List ℕ) → Finishes (setting_of_job job) job.hash_length (slice_at s.memory 3) old new (Ok tt) → new ≡ tag_of pwd salt config len
 
 -- `verify` then says whether a hash is the tag.
 abbrev pub EveryTeamGivesTheVerdict : Type 0
-EveryTeamGivesTheVerdict = (pwd salt : List ℕ) (config : Config) (len : ℕ) (job : CallerJob) (tasks : ℕ) (has_pool : Bool)
-    (s : Team (work_of job tasks has_pool)) → IsMade pwd salt config len job → IsFilled job tasks has_pool s → (hash old new : List ℕ)
+EveryTeamGivesTheVerdict = (pwd salt : List ℕ) (config : Config) (len : ℕ) (job : CallerJob) (tasks : ℕ)
+    (s : Team (work_of job tasks)) → IsMade pwd salt config len job → IsFilled job tasks s → (hash old new : List ℕ)
     → (Verifies (setting_of_job job) job.hash_length (slice_at s.memory 3) hash old new (Ok tt) → hash ≡ tag_of pwd salt config len)
     × (Verifies (setting_of_job job) job.hash_length (slice_at s.memory 3) hash old new (Err Mismatch) → hash ≡ tag_of pwd salt config len → ⊥)
 
 -- Once a call is over, also after an error, no thread works on any lane.
 abbrev pub NoThreadWorksAfterTheEnd : Type 0
-NoThreadWorksAfterTheEnd = (job : CallerJob) (tasks : ℕ) (has_pool : Bool) → 0 < tasks → NobodyWorksAfterTheEnd (work_of job tasks has_pool)
-
--- A call goes on to the next step only if its pool ran each of its tasks once, and no other task.
-abbrev pub EveryPoolRanEachTaskOnce : Type 0
-EveryPoolRanEachTaskOnce = (job : CallerJob) (tasks : ℕ) (has_pool : Bool) → 0 < tasks → EachTaskRanOnce (work_of job tasks has_pool)
+NoThreadWorksAfterTheEnd = (job : CallerJob) (tasks : ℕ) → 0 < tasks → NobodyWorksAfterTheEnd (work_of job tasks)
 
 -- In the finer model: the threads make moves of a team. Until the call has returned, some thread can go on, and no run
 -- is infinite unless a proved call writes for ever. When the call has returned, all other threads have ended.
 abbrev pub EveryCallReturns : Type 0
 EveryCallReturns = (job : CallerJob) (tasks members : ℕ) (is_long : Bool) → 0 < tasks → record {
-  team : ThreadsAreATeam (work_of job tasks false) members is_long;
-  goes_on : SomeThreadCanGoOn (work_of job tasks false) members is_long;
-  ends : EveryRunEnds (work_of job tasks false) members is_long;
-  joined : AllThreadsEnd (work_of job tasks false) members is_long;
+  team : ThreadsAreATeam (work_of job tasks) members is_long;
+  goes_on : SomeThreadCanGoOn (work_of job tasks) members is_long;
+  ends : EveryRunEnds (work_of job tasks) members is_long;
+  joined : AllThreadsEnd (work_of job tasks) members is_long;
 }

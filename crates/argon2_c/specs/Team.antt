@@ -1,7 +1,6 @@
 -- A model of the threads that fill memory for the C driver. A team takes the steps of one hash. It has any number of
 -- threads, of lanes, and of workers, each with some of the lanes. A thread can be late, take a part meant for another,
--- or fail, and a thread pool can run wrong tasks. A comment at each function of the driver names the moves that it
--- makes.
+-- or fail. A comment at each function of the driver names the moves that it makes.
 use Rattle.std.specs.Prelude.{◌≡◌, ◌≢◌, ◌⊎◌, ℕ, suc, ◌+◌, ◌*◌, ◌<◌, ◌≤◌, Bool, true, false, cond, eqb}
 
 -- What a team has to do: some steps, one after another, each of which writes one segment of each lane.
@@ -10,7 +9,6 @@ pub record Work : Type 1 where
   pub tasks : ℕ  -- how many workers there are
   pub steps : ℕ
   pub worker : ℕ → ℕ  -- the worker that has a lane
-  pub has_pool : Bool  -- the caller's thread pool runs the tasks, and not the call's own threads
   pub Memory : Type 0
   pub Segment : Type 0
   pub segment : ℕ → ℕ → Memory → Segment  -- the segment that a step writes in a lane
@@ -21,10 +19,8 @@ pub record Work : Type 1 where
 pub record Team (w : Work) : Type 0 where
   pub step : ℕ  -- the step that the caller's thread has reached
   pub is_over : Bool  -- the caller's thread takes no further step
-  pub is_astray : Bool  -- the pool has run a task that it was not to run
   pub woken : ℕ → ℕ  -- how often each other thread was woken for a step
   pub entered : ℕ → ℕ  -- how many steps each other thread has entered, by its own count
-  pub runs : ℕ → ℕ  -- how often the pool has run each task in this step
   pub state : ℕ → ℕ  -- of each worker: 2 n before step n, 2 n + 1 during it, 2 n + 2 after it
   pub code : ℕ → ℕ  -- of each worker: the code that its last step returned
   pub memory : w.Memory
@@ -36,8 +32,6 @@ pub data Move (w : Work) : Type 0 where
   Wakes : (thread : ℕ) → Move w  -- the caller's thread wakes another one for a step
   Enters : (thread : ℕ) → Move w  -- another thread enters the next step by its own count
   Claims : (step worker : ℕ) → Move w  -- a thread claims a worker's part of the step that it is in
-  Runs : (task : ℕ) → Move w  -- the pool runs a task, which claims its part
-  Strays : (task : ℕ) → Move w  -- the pool runs a task that does not exist, or whose part is claimed already
   Writes : (step worker : ℕ) → w.Memory → Move w  -- whoever claimed a part changes its segments
   Completes : (step worker : ℕ) → Move w  -- the part is done: every call for it returned 0
   Fails : (step worker code : ℕ) → Move w  -- the part ends with an error
@@ -89,24 +83,16 @@ pub record CanAdvance (w : Work) (s : Team w) : Type 0 where
   pub more : s.step < w.steps
   pub through : AreThrough w s
   pub ok : (i : ℕ) → i < w.tasks → s.code i ≡ 0
-  pub right : s.is_astray ≡ false
 
--- No task is running. We assume that pools run none after returning.
-abbrev pub IsPoolIdle : (w : Work) → Team w → Type 0
-IsPoolIdle w s = (w.has_pool ≡ true) × ((i : ℕ) → i < w.tasks → s.state i ≢ 2 * s.step + 1)
-
--- The caller's thread can stop in three cases: after the last step, once all workers are through with its step, or
--- after a pool returned.
+-- The caller's thread can stop in two cases: after the last step, or once all workers are through with its step.
 pub record CanStop (w : Work) (s : Team w) : Type 0 where
   pub goes_on : s.is_over ≡ false
-  pub why : (s.step ≡ w.steps) ⊎ AreThrough w s ⊎ IsPoolIdle w s
+  pub why : (s.step ≡ w.steps) ⊎ AreThrough w s
 
 abbrev pub Can : (w : Work) → (s : Team w) → Move w → Type 0
-Can w s (Wakes j) = (w.has_pool ≡ false) × IsInStep w s × (s.woken j ≤ s.step)
-Can w s (Enters j) = (w.has_pool ≡ false) × (s.is_over ≡ false) × (s.entered j < s.woken j)
-Can w s (Claims n i) = (w.has_pool ≡ false) × IsIn w s n × CanClaim w s n i
-Can w s (Runs i) = (w.has_pool ≡ true) × IsInStep w s × CanClaim w s s.step i
-Can w s (Strays i) = (w.has_pool ≡ true) × IsInStep w s × (CanClaim w s s.step i → ⊥)
+Can w s (Wakes j) = IsInStep w s × (s.woken j ≤ s.step)
+Can w s (Enters j) = (s.is_over ≡ false) × (s.entered j < s.woken j)
+Can w s (Claims n i) = IsIn w s n × CanClaim w s n i
 Can w s (Writes n i memory) = CanWrite w s n i memory
 Can w s (Completes n i) = CanEnd w s n i × AreFilled w s n i
 Can w s (Fails n i code) = CanEnd w s n i × (code ≢ 0)
@@ -125,9 +111,6 @@ abbrev pub claims : (w : Work) → Team w → ℕ → ℕ → Team w
 claims w s n i =
     record s { state = updated s.state i (2 * n + 1); claimed = λ l. cond (eqb (w.worker l) i) (w.segment n l s.memory) (s.claimed l) }
 
-abbrev pub runs_task : (w : Work) → Team w → ℕ → Team w
-runs_task w s i = record s { runs = updated s.runs i (suc (s.runs i)) }
-
 abbrev pub writes : (w : Work) → Team w → w.Memory → Team w
 writes w s memory = record s { memory = memory }
 
@@ -135,7 +118,7 @@ abbrev pub ends : (w : Work) → Team w → ℕ → ℕ → ℕ → Team w
 ends w s n i code = record s { state = updated s.state i (2 * n + 2); code = updated s.code i code }
 
 abbrev pub advances : (w : Work) → Team w → Team w
-advances w s = record s { step = suc s.step; runs = λ _. 0; before = updated s.before (suc s.step) s.memory }
+advances w s = record s { step = suc s.step; before = updated s.before (suc s.step) s.memory }
 
 abbrev pub stops : (w : Work) → Team w → Team w
 stops w s = record s { is_over = true }
@@ -144,8 +127,6 @@ abbrev pub after : (w : Work) → Team w → Move w → Team w
 after w s (Wakes j) = wakes w s j
 after w s (Enters j) = enters w s j
 after w s (Claims n i) = claims w s n i
-after w s (Runs i) = claims w (runs_task w s i) s.step i
-after w s (Strays i) = record (runs_task w s i) { is_astray = true }
 after w s (Writes n i memory) = writes w s memory
 after w s (Completes n i) = ends w s n i 0
 after w s (Fails n i code) = ends w s n i code
@@ -157,10 +138,8 @@ after w s Stops = stops w s
 pub record IsStart (w : Work) (s : Team w) : Type 0 where
   pub step : s.step ≡ 0
   pub goes_on : s.is_over ≡ false
-  pub right : s.is_astray ≡ false
   pub woken : (j : ℕ) → s.woken j ≡ 0
   pub entered : (j : ℕ) → s.entered j ≡ 0
-  pub runs : (i : ℕ) → s.runs i ≡ 0
   pub state : (i : ℕ) → s.state i ≡ 0
   pub before : s.before 0 ≡ s.memory
 
@@ -191,8 +170,3 @@ EveryStepIsWhole w = (s : Team w) → IsReached w s
 -- Once the call is over, for whatever reason, no part is claimed: so nobody writes to memory.
 abbrev pub NobodyWorksAfterTheEnd : Work → Type 0
 NobodyWorksAfterTheEnd w = (s : Team w) → IsReached w s → s.is_over ≡ true → (n i : ℕ) → i < w.tasks → s.state i ≢ 2 * n + 1
-
--- A call goes on only if its pool ran each task once, and no other.
-abbrev pub EachTaskRanOnce : Work → Type 0
-EachTaskRanOnce w = (s : Team w) → IsReached w s → w.has_pool ≡ true → CanAdvance w s
-    → ((i : ℕ) → i < w.tasks → s.runs i ≡ 1) × ((i : ℕ) → w.tasks ≤ i → s.runs i ≡ 0)

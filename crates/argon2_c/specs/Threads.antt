@@ -1,4 +1,4 @@
--- A finer model of the C driver's own threads: it adds the place of each thread in the driver's code (run_team, take_parts
+-- A finer model of the C driver's threads: it adds the place of each thread in the driver's code (run_team, take_parts
 -- and follow) and the value of its semaphore. With these it can say that the threads do not deadlock.
 use Rattle.std.specs.Prelude.{◌≡◌, ◌≢◌, ◌⊎◌, ℕ, suc, ◌-◌, ◌*◌, ◌<◌, ◌≤◌, Bool, true, false, cond, eqb, ltb}
 use Rattle.argon2_c.specs.Team.{Work, Team, updated, wakes, enters, claims, writes, ends, advances, stops, IsStart as IsTeamStart, IsReached as IsTeamReached}
@@ -133,7 +133,6 @@ after w members is_long s Returns = goes w members is_long s 0 Ended
 
 -- At the start the caller's thread is about to wake the others, and they wait.
 pub record IsStart (w : Work) (members : ℕ) (is_long : Bool) (s : Threads w members is_long) : Type 0 where
-  pub own : w.has_pool ≡ false
   pub fewer : members < w.tasks
   pub some : 0 < w.steps
   pub team : IsTeamStart w s.team

@@ -8,7 +8,7 @@ ghost use Rattle.argon2_c.specs.Jobs.{MakesJob, MakesStoredJob, WritesTagText, s
 ghost use Rattle.argon2_c.specs.Steps.{Begins, Fills, Finishes, Verifies};
 ghost use Rattle.argon2_c.specs.CallerBlocks.{HashesJob, JudgesJob};
 ghost use Rattle.argon2_c.specs.Driver.{EveryTeamGivesTheTag, EveryTeamGivesTheVerdict};
-ghost use Rattle.argon2_c.specs.Driver.{NoThreadWorksAfterTheEnd, EveryPoolRanEachTaskOnce, EveryCallReturns};
+ghost use Rattle.argon2_c.specs.Driver.{NoThreadWorksAfterTheEnd, EveryCallReturns};
 ghost use Rattle.argon2_c.specs.ErrorTable.{IsCodeOf};
 ghost use Rattle.argon2_c.specs.Runs.{EveryOrderOfTurnsIsARun, EveryRunGivesTheTag, EveryRunGivesTheVerdict, OneCallGivesTheTag, OneCallGivesTheVerdict};
 ghost use Rattle.argon2_c.specs.Settings.{config_of};
@@ -170,9 +170,8 @@ pub extern "C" fn proved_argon2_encode(
 ///   the tag, and `verify` says whether a hash is the tag. The calls that take all steps in one
 ///   order return the same.
 /// - The same is true if threads of the driver's model take the steps (`team`, `team_verdict`).
-///   Once a call is over, no thread works (`team_end`). A call goes on to the next step only if its
-///   pool ran each task once (`team_pool`). The threads never all wait, and a call ends unless a proved call in it
-///   writes for ever (`team_returns`).
+///   Once a call is over, no thread works (`team_end`). The threads never all wait, and a call ends
+///   unless a proved call in it writes for ever (`team_returns`).
 pub fn any_order_of_steps()
     ensures turns { EveryOrderOfTurnsIsARun }
     ensures tag { EveryRunGivesTheTag }
@@ -182,6 +181,5 @@ pub fn any_order_of_steps()
     ensures team { EveryTeamGivesTheTag }
     ensures team_verdict { EveryTeamGivesTheVerdict }
     ensures team_end { NoThreadWorksAfterTheEnd }
-    ensures team_pool { EveryPoolRanEachTaskOnce }
     ensures team_returns { EveryCallReturns }
 {}

@@ -38,10 +38,6 @@ def moves_of(spec):
     return re.findall(r'^ +([A-Z]\w*) :', moves, re.MULTILINE)
 
 
-# The model also has the moves of a thread pool, which the driver never has.
-OF_THREADS = [move for move in moves_of('Team') if move not in ('Runs', 'Strays')]
-
-
 def compiled(source, made):
     subprocess.run([*COMPILER, '-c', source, '-o', made], check=True)
     return made
@@ -93,12 +89,12 @@ def test_nothing_goes_wrong(came, case):
 
 def test_each_move_of_the_model_is_made(came):
     made = dict(line.split() for line in came((2, 2, 1))[1].splitlines()[1:])
-    assert list(made) == OF_THREADS and '0' not in made.values()
+    assert list(made) == moves_of('Team') and '0' not in made.values()
 
 
 def test_the_driver_names_each_move_of_the_models():
     named = re.findall(r'\bMoves: ([A-Z]\w+(?:, [A-Z]\w+)*)\. \*/', DRIVER)
-    moves = set(OF_THREADS) | set(moves_of('Threads'))
+    moves = set(moves_of('Team')) | set(moves_of('Threads'))
     assert sorted(', '.join(named).split(', ')) == sorted(moves)
 
 
