@@ -5,6 +5,7 @@ publishes this (PROJECT), the kits (build/kits.txt), and what runs the library a
 
 import itertools
 import re
+import sys
 import textwrap
 
 from common import TOP, files, fill, lines, read, require, write
@@ -137,7 +138,6 @@ def lists():
         'presets': [original, *recommended],
         'recommended': recommended,
         'default preset': [preset for preset in recommended if preset['name'] == 'owasp2'],
-        'others': [preset for preset in recommended if preset['name'] != 'owasp1'],  # (which share its promise)
         **{f'errors {first}-{end}': [error for error in every if first <= int(error['n']) < end]
            for first, end in itertools.combinations((0, 64, 128, 256), 2)},
         'errors for Go': errors_for_go(every),
@@ -193,7 +193,13 @@ def write_place(file, what, items, mark, form):
 
 
 def write_all():
-    known = lists()
+    """Writes all places that can be written, and then exits if others are stale: it names all of these at once."""
+    known, stale = lists(), []
     for places, what, mark, form in (line.split(' | ', 3) for line in lines(TABLE)):
         for file in places.split():
-            write_place(file, what, known[what], mark, form.replace('\\n', '\n'))
+            try:
+                write_place(file, what, known[what], mark, form.replace('\\n', '\n'))
+            except SystemExit as found:
+                stale.append(str(found))
+    if stale:
+        sys.exit('\n'.join(stale))
