@@ -73,8 +73,8 @@ KINDS = {
 
 
 def expected_end(kind, came):
-    """How a run has to end by what was refused for good. A request right before a start is the start's own, and is
-    asked for anew at the next try."""
+    """Returns the results that are allowed, given what was denied for good. A thread's own allocation counts as part of
+    its start, and is asked for anew at the next try."""
     if kind == 'memory' and came.met['refused']:
         after = came.notes[came.notes.index('refused') + 1:]
         return VALUE if after[:2] == ['request', 'start'] else NO_MEMORY

@@ -204,7 +204,7 @@ def call(number):
 
 @functools.cache
 def decode(text, to):
-    """The step that an instruction is."""
+    """Decodes an instruction: returns the step that it takes."""
     name, *words = text.split()
     if to is RETURN or name == 'return':
         return Wasm.leave

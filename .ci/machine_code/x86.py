@@ -203,7 +203,7 @@ def clear_upper(machine):
 
 
 def control(mnemonic, sources, target):
-    """What has operands of its own kind, or none."""
+    """Decodes instructions with special operands, or none."""
     match mnemonic, len(sources):
         case 'cmp', 2:
             return lambda machine: machine.compare(*(source(machine) for source in sources))
@@ -233,7 +233,7 @@ def control(mnemonic, sources, target):
 
 @functools.cache
 def decode(text):
-    """The step that an instruction is."""
+    """Decodes an instruction: returns the step that it takes."""
     mnemonic, _, rest = text.partition(' ')
     if re.match('(data16 |cs )*(nop|endbr64)', text):
         return lambda machine: None

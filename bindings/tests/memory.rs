@@ -143,8 +143,8 @@ fn errors_leave_the_buffer_unchanged() {
     assert!(bytes(&mut memory).iter().all(|byte| *byte == 0xa5));
 }
 
-/// How often the memory that this process may write to contains these bytes. A forked child counts, in which no other
-/// thread unmaps memory meanwhile.
+/// How often the memory that this process may write to contains these bytes. We count in a forked child,
+/// because no other thread can unmap memory there.
 fn occurrences_of(word: &[u8]) -> usize {
     (status_of_child(fork, || count(word) as i32) >> 8) as usize
 }

@@ -31,10 +31,9 @@
  *
  * Threads. Calls are thread-safe, as long as nothing writes to what a call is passed: an encoded hash that changes
  * while it is read may end the process. The only state of the library is which build it runs. Deferred cancellation
- * never ends a call. Asynchronous cancellation can end a proved call at any point. It can end any other call just
- * before that call returns. It can also end a call that makes a salt right after the salt was made. Calls are not
- * async-signal-safe, so make none from a signal handler. In the forked child of a process with threads, calls are safe
- * if malloc is, as with the GNU C library.
+ * never ends a call. Do not cancel a thread asynchronously during a call. Calls are not async-signal-safe, so make none
+ * from a signal handler. In the forked child of a process with threads, calls are safe if malloc is, as with the GNU C
+ * library.
  *
  * Symbols. Each symbol of the library begins with proved_, so that a program can link libargon2 too.
  */
@@ -129,7 +128,7 @@ enum proved_argon2_code {
     PROVED_ARGON2_NO_RANDOM_BYTES = 129, /* the system had no random bytes for a salt */
     PROVED_ARGON2_STOPPED = 130,         /* the progress callback stopped the call */
     PROVED_ARGON2_OLD_PROCESSOR = 131,   /* the library has no build for this processor */
-    PROVED_ARGON2_MISALIGNED = 132,      /* blocks or a reusable buffer are not at a multiple of 8 */
+    PROVED_ARGON2_MISALIGNED = 132,      /* the address of the blocks or of the buffer is not a multiple of 8 */
     /* end */
 };
 

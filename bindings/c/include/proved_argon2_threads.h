@@ -27,7 +27,7 @@ extern "C" {
  */
 typedef int proved_argon2_progress(void *arg, uint64_t done, uint64_t all);
 
-/* The most threads that verify an encoded hash. A hash that somebody else wrote could name millions of lanes. */
+/* A verification uses at most this many threads, since an attacker's hash could ask for millions of lanes. */
 /* most threads of a string, by .ci/pages/presets */
 #define PROVED_ARGON2_MAX_VERIFYING_THREADS 16
 /* end */

@@ -98,7 +98,7 @@ static uint32_t answer_asked(const void *arg)
     return answer(asked->name, asked->trial);
 }
 
-/* Whether a call returns what it should, leaves only what it writes, and holds no memory. */
+/* Checks that a call returns what it should, leaves nothing but its outputs, and frees all memory. */
 static bool is_cleared(size_t name, const struct trial *trial)
 {
     seek(trial->call);

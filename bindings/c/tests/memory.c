@@ -137,7 +137,7 @@ static void check_huge_pages(void)
     check(maps_well(TWO, 1) && maps_well(TWO, 4), "no rest gets no page");
 }
 
-/* The system denies to split a mapping if the process has as many as it may have. */
+/* munmap fails if it would have to split a mapping and the process has its maximum number of mappings. */
 static void check_denied_unmapping(void)
 {
     size_t others = 0;

@@ -194,7 +194,7 @@ static int what_is_left(const void *arg)
     return (bits & leaves ? LEAVES : 0) | (overwrites ? 0 : OVERWRITES) | (kinds_found() || is_there ? ELSEWHERE : 0);
 }
 
-static int overwritten; /* what is found of what a call should overwrite */
+static int overwritten; /* copies of secrets that were still found */
 
 static void check_row(const struct row *row)
 {

@@ -83,8 +83,7 @@ static void check_small(void)
 static void check_verifying(void)
 {
     enum { EACH = PROVED_ARGON2_MAX_VERIFYING_THREADS };
-    static const char text[] =
-        "$argon2id$v=19$m=4096,t=1,p=64$c29tZXNhbHQ$AAAAAAAAAAAAAAAAAAAAAAAAAAAAAAAAAAAAAAAAAAA";
+    static const char text[] = "$argon2id$v=19$m=4096,t=1,p=64$c29tZXNhbHQ$AAAAAAAAAAAAAAAAAAAAAAAAAAAAAAAAAAAAAAAAAAA";
     const proved_argon2_settings settings = {PROVED_ARGON2_ID, PROVED_ARGON2_VERSION_13, 4096, 1, 64, 32};
     const proved_argon2_options with = by(64);
     refuse_nothing();

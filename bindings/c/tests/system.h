@@ -37,9 +37,12 @@ void __wrap_free(void *block);
 void __real_explicit_bzero(void *bytes, size_t len);
 void __wrap_explicit_bzero(void *bytes, size_t len);
 
-/* Starts that were asked for and that were granted, joins, the threads that run, the most that did at once, and how
- * often one was started while none ran. */
-static atomic_size_t starts, granted, joins, running, most_running, bursts;
+static atomic_size_t starts;       /* of threads, that were asked for */
+static atomic_size_t granted;      /* starts that were granted */
+static atomic_size_t joins;        /* of threads */
+static atomic_size_t running;      /* threads that run now */
+static atomic_size_t most_running; /* the most threads that ran at once */
+static atomic_size_t bursts;       /* how often a thread was started while none ran */
 
 /* Threads that were started while some signal was not blocked, and starts that requested a stack that is not small. */
 static atomic_size_t open_to_signals, large_stacks;

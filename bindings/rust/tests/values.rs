@@ -126,7 +126,7 @@ fn the_question_mark_converts_both_types_of_errors() {
     assert!(Unverified::TooCostly.source().is_none());
 }
 
-/// Settings within the default limits and settings above them: a hash is within the limits raised to its settings.
+/// `at_least` admits every hash with these settings, whether they are within the default limits or above them.
 #[test]
 fn at_least_raises_the_default_limits_to_the_settings() {
     let small = Config { mem_cost: 1360, time_cost: 1, ..Config::default() };

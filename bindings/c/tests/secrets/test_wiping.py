@@ -104,7 +104,7 @@ def parts(vector):
 
 @cache
 def blocks_of(vector):
-    """What is sought of a hash that may leave no block: two words of one block of each segment."""
+    """Two words of one block of each segment: what we search for after a call that must leave no block."""
     setting = rfc9106.Setting(*vector[:-1])
     return [(f'lane {lane}, slice {column // setting.segment}', struct.pack('<2Q', *words[40:42]))
             for (lane, column), words in setting.filled().items() if column % setting.segment == setting.segment - 1]

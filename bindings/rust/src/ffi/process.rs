@@ -39,7 +39,7 @@ fn count_forks() {
         FORKS.fetch_add(1, SeqCst);
     }
 
-    /// Whether the handler was registered. A lock could be held for ever in a forked child.
+    /// Whether the handler was registered: an atomic flag and no lock, since a child could inherit a held lock.
     static IS_COUNTED: AtomicBool = AtomicBool::new(false);
     if !IS_COUNTED.swap(true, SeqCst) {
         // SAFETY: the handler takes no arguments and only adds to an atomic number, which is safe in a forked child.
