@@ -20,7 +20,7 @@
 
 #define ENCODED "$argon2id$v=19$m=256,t=2,p=1$c29tZXNhbHQ$nf65EOgLrQMR/uIPnA4rEsF5h7TKyQwu9U1bMCHGi/4"
 enum { OK = 0, MISMATCH = 64, LARGEST = 128 };
-enum { HASH, VERIFY }; /* the first two of Native.Call */
+enum { HASH, HASH_RAW, VERIFY }; /* the first of Native.Call */
 
 struct array {
     size_t of_item;

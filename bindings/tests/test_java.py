@@ -5,7 +5,8 @@ import zipfile
 from pathlib import Path
 
 import pytest
-from running import CC, CODES, MACHINE, NUMBERS, TOP, built, first_lines, in_namespace, needs, run, start
+from running import (
+    CC, CODES, HEADER, MACHINE, NUMBERS, TOP, built, first_lines, in_namespace, needs, run, start)
 
 JAVA, TESTS = TOP / "bindings/java", TOP / "bindings/tests"
 LIBRARIES = [f"/usr/share/java/{name}.jar" for name in ("junit-platform-console-standalone", "bcprov")]
@@ -183,8 +184,9 @@ def test_each_number_is_a_value_or_its_error(jar, classes, drawn, tmp_path):
     include = [f"-I{folder}" for folder in headers()]
     run(CC, "-shared", "-fPIC", "-Wall", "-Wextra", "-Werror", *include, "-I", TOP / "bindings/c/include",
         TESTS / "codes.c", tmp_path / "own.c", JAVA / "native/proved_argon2_java.c", "-o", tmp_path / "codes.so")
-    named = {"proved.argon2.library": tmp_path / "codes.so", "numbers": " ".join(map(str, NUMBERS))}
-    for name in ("hash_encoded", "verify_encoded_within", "needs_rehash"):
+    named = {"proved.argon2.library": tmp_path / "codes.so", "numbers": " ".join(map(str, NUMBERS)),
+             "names": " ".join(f"{number}={name}" for name, number in HEADER.items())}
+    for name in ("hash_raw", "hash_encoded", "verify_encoded_within", "needs_rehash"):
         named[f"codes.{name}"] = " ".join(f"{number}={value}" for number, value in CODES[name].values.items())
         named[f"passed.{name}"] = CODES[name].computing
     passes(3, "java", *(f"-D{name}={value}" for name, value in named.items()),
@@ -200,7 +202,7 @@ def headers():
 def test_denied_memory_and_threads(jar, classes, drawn, tmp_path):
     (tmp_path / "denying.c").write_text(DENYING)
     run(CC, "-shared", "-fPIC", "-Wall", "-Wextra", "-Werror", tmp_path / "denying.c", "-o", tmp_path / "denying.so")
-    passes(6, "java", *words_of(jar, classes, drawn, "--include-tag", "denied"),
+    passes(5, "java", *words_of(jar, classes, drawn, "--include-tag", "denied"),
            env={"LD_PRELOAD": tmp_path / "denying.so", "DENIED": tmp_path})
 
 

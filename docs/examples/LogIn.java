@@ -41,7 +41,7 @@ final class LogIn {
             }
             return log("logged in", user, new Result(Answer.ACCEPTED, verdict.update().orElse(stored)));
         } catch (Argon2Exception error) {
-            if (error.number() == Argon2Exception.NOT_UNICODE) {
+            if (error.reason() == Argon2Exception.Reason.NOT_UNICODE) {
                 return log("no text as password", user, new Result(Answer.REJECTED, stored));
             }
             return log("error: " + error.getMessage(), user, new Result(Answer.TRY_LATER, stored));

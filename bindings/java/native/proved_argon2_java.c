@@ -1,6 +1,6 @@
-/* The calls of the library for Java. Only the package's own class Native makes them, and passes null only for a buffer.
- * Arrays are copied, since the garbage collector may move them while a hash is computed, and copies are cleared. This
- * is tested, not proved. */
+/* The calls of the library for Java. Only the package's own class Native makes them. It passes null only for a buffer,
+ * and for what stops a call. Arrays are copied, since the garbage collector may move them while a hash is computed, and
+ * copies are cleared. This is tested, not proved. */
 #include <jni.h>
 #include <proved_argon2.h>
 #include <stdbool.h>
@@ -13,7 +13,7 @@
         JNIEnv *env, __attribute__((unused)) jclass class, __VA_ARGS__)
 
 /* The order of Native.Call. */
-enum { HASH, VERIFY, VERIFY_UNKNOWN, NEEDS_REHASH };
+enum { HASH, HASH_RAW, VERIFY, VERIFY_UNKNOWN, NEEDS_REHASH };
 
 /* The arrays of a call, and their copies. */
 enum { PASSWORD, SALT, PEPPER, DATA, TEXT, ARRAYS };
@@ -77,6 +77,17 @@ static int must_stop(void *arg, __attribute__((unused)) uint64_t done, __attribu
     return (*self->env)->ExceptionCheck(self->env) || is_stopped;
 }
 
+/* Lets Java stop the call, if something can. Returns whether the call may begin. */
+static bool ask_caller(caller *self, proved_argon2_options *options)
+{
+    if (self->is_stopped == NULL) return true;
+    const jclass supplier = (*self->env)->GetObjectClass(self->env, self->is_stopped);
+    self->get = (*self->env)->GetMethodID(self->env, supplier, "getAsBoolean", "()Z");
+    options->progress = must_stop;
+    options->arg = self;
+    return self->get != NULL && !must_stop(self, 0, 0);
+}
+
 static void free_kept(jlong *kept)
 {
     proved_argon2_memory_free((void *)(intptr_t)kept[0], (size_t)kept[1]);
@@ -114,6 +125,9 @@ static uint32_t compute(jint call, const proved_argon2_options *options, const b
             options, (char *)of[TEXT].at, of[TEXT].len, BYTES(PASSWORD), BYTES(PEPPER), BYTES(DATA));
     if (call == VERIFY_UNKNOWN)
         return proved_argon2_password_verify_unknown(options, options->new_settings, BYTES(PASSWORD), BYTES(PEPPER));
+    if (call == HASH_RAW)
+        return proved_argon2_hash_raw_with(options, BYTES(PASSWORD), BYTES(SALT), BYTES(PEPPER), BYTES(DATA),
+            options->new_settings, BYTES(TEXT));
     return proved_argon2_hash_encoded_with(options, BYTES(PASSWORD), BYTES(SALT), BYTES(PEPPER), BYTES(DATA),
         options->new_settings, (char *)of[TEXT].at, of[TEXT].len);
 }
@@ -135,18 +149,13 @@ CALL(jint, make, jint call, jintArray settings, jlongArray limits, jlongArray ke
 {
     const proved_argon2_stored new_settings = settings_of(env, settings);
     const proved_argon2_limits within = limits_of(env, limits);
-    const jclass supplier = (*env)->GetObjectClass(env, is_stopped);
-    caller self = {env, is_stopped, (*env)->GetMethodID(env, supplier, "getAsBoolean", "()Z")};
-    proved_argon2_options options = {.size = sizeof options,
-        .threads = UINT32_MAX,
-        .limits = &within,
-        .progress = must_stop,
-        .arg = &self,
-        .new_settings = &new_settings.settings};
+    caller self = {env, is_stopped, NULL};
+    proved_argon2_options options = {
+        .size = sizeof options, .threads = UINT32_MAX, .limits = &within, .new_settings = &new_settings.settings};
     proved_argon2_stored stored = new_settings;
     bytes of[ARRAYS] = {{NULL, 0}};
     uint32_t code = PROVED_ARGON2_OUT_OF_MEMORY;
-    if (self.get == NULL || (call != NEEDS_REHASH && must_stop(&self, 0, 0))) return PROVED_ARGON2_STOPPED;
+    if (!ask_caller(&self, &options)) return PROVED_ARGON2_STOPPED;
     if (copy(env, (jbyteArray[]){password, salt, pepper, data, text}, of)) {
         const bool reads = call == VERIFY || call == NEEDS_REHASH;
         code = reads ? proved_argon2_read((char *)of[TEXT].at, of[TEXT].len, &stored) : PROVED_ARGON2_OK;
@@ -157,7 +166,7 @@ CALL(jint, make, jint call, jintArray settings, jlongArray limits, jlongArray ke
         use_kept(env, kept, proved_argon2_memory_len(&stored.settings), &options);
         code = compute(call, &options, of);
     }
-    if (code == PROVED_ARGON2_OK && call == HASH) {
+    if (code == PROVED_ARGON2_OK && (call == HASH || call == HASH_RAW)) {
         (*env)->SetByteArrayRegion(env, text, 0, (jsize)of[TEXT].len, (const jbyte *)of[TEXT].at);
     }
     discard(of);

@@ -1,7 +1,6 @@
 package proved.argon2;
 
 import java.time.Duration;
-import java.util.List;
 import java.util.Set;
 import java.util.concurrent.CancellationException;
 import java.util.concurrent.CompletableFuture;
@@ -9,10 +8,11 @@ import java.util.concurrent.CompletionException;
 import java.util.concurrent.ConcurrentHashMap;
 import java.util.concurrent.ExecutionException;
 import java.util.concurrent.LinkedBlockingQueue;
-import java.util.concurrent.RejectedExecutionException;
-import java.util.concurrent.ThreadPoolExecutor;
+import java.util.concurrent.Semaphore;
 import java.util.concurrent.TimeUnit;
+import java.util.function.BooleanSupplier;
 import java.util.function.Supplier;
+import proved.argon2.Argon2Exception.Reason;
 
 /**
  * Limits how many hashes are computed at a time, and how many calls wait for that. Make one for the whole service.
@@ -29,13 +29,18 @@ public final class HashQueue implements AutoCloseable {
     private static final Duration IDLE = Duration.ofSeconds(10);
     private static final int WAITING_FOR_EACH = 16;
 
-    /** The most threads that the pool can count. */
-    private static final int MOST_THREADS = (1 << 29) - 1;
-
-    final ThreadPoolExecutor threads;
-    /** The calls that compute or wait, at most as many as there are places. */
+    private final LinkedBlockingQueue<Task<?>> waiting = new LinkedBlockingQueue<>();
+    /** The calls that compute or wait. */
     private final Set<Task<?>> tasks = ConcurrentHashMap.newKeySet();
-    private final long places;
+    /** A permit for each call that the queue still has a place for. */
+    private final Semaphore places;
+    /** A permit for each thread that may still be started. */
+    private final Semaphore startable;
+    private final int concurrency;
+    private final Duration idle;
+    /** Wakes the threads of a closed queue, each of which puts it back for the next one. */
+    private final Task<?> end = new Task<>(null, null);
+    private volatile boolean isClosed;
 
     /** A queue in which {@code concurrency} calls compute at a time, at least 1, and {@code waiting} more wait. */
     public HashQueue(int concurrency, int waiting) {
@@ -46,11 +51,10 @@ public final class HashQueue implements AutoCloseable {
         if (concurrency < 1 || waiting < 0) {
             throw new IllegalArgumentException("concurrency must be at least 1, and waiting at least 0");
         }
-        int most = Math.min(concurrency, MOST_THREADS);
-        threads = new ThreadPoolExecutor(
-            most, most, idle.toNanos(), TimeUnit.NANOSECONDS, new LinkedBlockingQueue<>(), Worker::new);
-        threads.allowCoreThreadTimeOut(true);
-        places = (long) concurrency + waiting;
+        this.concurrency = concurrency;
+        this.idle = idle;
+        places = new Semaphore((int) Math.min(Integer.MAX_VALUE, (long) concurrency + waiting));
+        startable = new Semaphore(concurrency);
     }
 
     /**
@@ -68,34 +72,34 @@ public final class HashQueue implements AutoCloseable {
      * Makes a call in a thread of the queue. Cancelling the future takes the call out of the queue, or stops its hash
      * after the current slice; so does completing it in another way, as {@code orTimeout} does. Run what depends on the
      * future in other threads, as {@code thenAcceptAsync} does. Leave the password as it is until the future is done.
-     * Throws {@link Argon2Exception#BUSY} if no more calls may wait.
+     * If no more calls may wait, the future has failed with {@link Reason#BUSY}.
      */
     public <T> CompletableFuture<T> submit(Supplier<T> call) {
-        Task<T> task = new Task<>(call);
-        task.whenComplete((value, error) -> task.leaveQueue());
-        Argon2Exception.require(isAccepted(task), Argon2Exception.BUSY);
-        return task;
+        return enqueue(new Task<>(call, null));
     }
 
     /**
      * Does what {@link #submit} does, and waits for what the call returns or throws. Interrupting the caller cancels
-     * the call. In a thread of this queue the call is made at once, in the place that the thread already has. Throws
-     * {@link Argon2Exception#STOPPED} if the queue is closed meanwhile.
+     * the call. Throws {@link Reason#STOPPED} if the queue is closed meanwhile. Within a call of this queue, also if
+     * that waits for a call in another queue, the call is made at once, in the place that there is.
      */
     public <T> T run(Supplier<T> call) {
-        if (Thread.currentThread() instanceof Worker worker && worker.queue == this) {
-            return call.get(); // waiting for another thread of the queue could be a deadlock
+        Task<?> outer = Thread.currentThread() instanceof Worker worker ? worker.task : null;
+        for (Task<?> task = outer; task != null; task = task.outer) {
+            if (task.queue() == this) {
+                return call.get(); // waiting for another place of the queue could be a deadlock
+            }
         }
-        CompletableFuture<T> future = submit(call);
-        if (Thread.currentThread() instanceof Worker worker && worker.current != null) {
-            worker.current.whenComplete((value, error) -> future.cancel(true)); // the caller is in another queue
+        CompletableFuture<T> future = enqueue(new Task<>(call, outer));
+        if (stop() != null) {
+            outer.whenComplete((value, error) -> future.cancel(true));
         }
         try {
             return future.get();
         } catch (InterruptedException interruption) {
             future.cancel(true);
             Thread.currentThread().interrupt();
-            throw new Argon2Exception(Argon2Exception.STOPPED);
+            throw new Argon2Exception(Reason.STOPPED);
         } catch (ExecutionException failure) {
             Throwable cause = failure.getCause();
             if (cause instanceof Error error) {
@@ -104,146 +108,166 @@ public final class HashQueue implements AutoCloseable {
             // (if the call threw a CompletionException, get() has unwrapped it)
             throw cause instanceof RuntimeException error ? error : new CompletionException(cause);
         } catch (CancellationException cancelled) { // by close(), or by the call itself: nobody else has the future
-            throw threads.isShutdown() ? new Argon2Exception(Argon2Exception.STOPPED) : cancelled;
+            throw isClosed ? new Argon2Exception(Reason.STOPPED) : cancelled;
         }
     }
 
     /** Cancels all calls, and rejects new ones. The threads free their memory and end. */
     @Override
     public void close() {
-        threads.shutdown();
+        isClosed = true;
         tasks.forEach(task -> task.cancel(true));
+        waiting.add(end);
     }
 
-    /** Accepts one call at a time: the pool's size may count another caller's thread that the system then denies. */
-    private boolean isAccepted(Task<?> task) {
-        boolean isAccepted;
-        synchronized (tasks) {
-            isAccepted = hasPlace(task) && isQueued(task);
+    /** What tells whether nobody waits for this thread's call any more, or null: then nothing can stop the call. */
+    static BooleanSupplier stop() {
+        return Thread.currentThread() instanceof Worker worker && worker.isCalling ? worker.task::isDone : null;
+    }
+
+    private <T> CompletableFuture<T> enqueue(Task<T> task) {
+        if (isClosed || !hasPlace()) {
+            return CompletableFuture.failedFuture(new Argon2Exception(Reason.BUSY));
         }
-        if (task.isCancelled()) { // the last thread may have ended because the pool counted the one that was denied
-            rejectWithoutThread();
+        tasks.add(task);
+        waiting.add(task);
+        task.whenComplete((value, error) -> leave(task));
+        if (startable.tryAcquire()) {
+            startThread();
         }
-        return isAccepted;
+        if (isClosed) { // close() may not have seen the call
+            task.cancel(true);
+        }
+        return task;
     }
 
     /**
-     * Adds a call if there is a place. A cancelled call needs no place, even before its own {@link Task#leaveQueue} has
-     * run: the user's callbacks run first, and may take long or submit the next call.
+     * Takes a place if there is one. A cancelled call needs none, even before {@link #leave} was called for it: the
+     * user's callbacks run first, and may take long or submit the next call.
      */
-    private boolean hasPlace(Task<?> task) {
-        if (tasks.size() >= places) {
-            tasks.stream().filter(CompletableFuture::isDone).forEach(Task::leaveQueue);
+    private boolean hasPlace() {
+        if (places.tryAcquire()) {
+            return true;
         }
-        return tasks.size() < places && tasks.add(task);
+        waiting.stream().filter(CompletableFuture::isDone).forEach(this::leave);
+        return places.tryAcquire();
     }
 
-    /** Passes a call to the threads. If the system denies another thread, the call waits for those that there are. */
-    private boolean isQueued(Task<?> task) {
-        boolean isQueued = false;
+    /** Removes a call that is done but still waits. */
+    private void leave(Task<?> task) {
+        if (waiting.remove(task)) {
+            task.end();
+        }
+    }
+
+    /**
+     * Starts a thread. If the system denies it, the calls wait for other threads. If there is none, they are rejected:
+     * this sees whoever is the last to be denied one.
+     */
+    private void startThread() {
         try {
-            threads.execute(task);
-            isQueued = true;
-        } catch (RejectedExecutionException error) { // the queue was closed meanwhile
+            new Worker().start();
         } catch (OutOfMemoryError denied) {
-            threads.getQueue().add(task);
-            isQueued = threads.getPoolSize() > 0 || !threads.remove(task);
-        } finally {
-            if (!isQueued) {
-                tasks.remove(task);
-                task.cancel(false); // the pool may have queued the task before the system denied the thread
+            startable.release();
+            if (startable.availablePermits() == concurrency) {
+                waiting.forEach(task -> task.completeExceptionally(new Argon2Exception(Reason.BUSY)));
             }
         }
-        return isQueued;
-    }
-
-    /** Rejects the calls that wait if no thread is left that could make them. */
-    private void rejectWithoutThread() {
-        List<Task<?>> waiting;
-        synchronized (tasks) {
-            waiting = threads.getPoolSize() == 0 ? List.copyOf(tasks) : List.of();
-        }
-        waiting.forEach(task -> task.completeExceptionally(new Argon2Exception(Argon2Exception.BUSY)));
     }
 
     /** A call, and the future of its result. */
-    private final class Task<T> extends CompletableFuture<T> implements Runnable {
+    private final class Task<T> extends CompletableFuture<T> {
         /** Null once it was made or left the queue: it may refer to a password. */
         private Supplier<T> call;
+        /** The call in whose thread somebody waits for this one, in another queue, or null. */
+        private final Task<?> outer;
 
-        private Task(Supplier<T> call) {
+        private Task(Supplier<T> call, Task<?> outer) {
             this.call = call;
+            this.outer = outer;
         }
 
-        /**
-         * Makes the call. Its place is free before anybody hears of its end. If no memory is left for a callback's
-         * result, completing throws; only another attempt runs the other callbacks and wakes the waiting threads.
-         */
-        @Override
-        public void run() {
-            Worker thread = (Worker) Thread.currentThread();
+        private HashQueue queue() {
+            return HashQueue.this;
+        }
+
+        /** Makes the call. Its place is free before anybody hears of its end. */
+        private void run(Worker thread) {
             T value = null;
             Throwable error = null;
-            thread.current = this;
+            thread.isCalling = true;
             try {
                 value = isDone() ? null : call.get();
             } catch (Throwable thrown) {
                 error = thrown;
             }
-            thread.current = null;
-            call = null;
+            thread.isCalling = false;
             Thread.interrupted(); // the call may have left the thread interrupted
-            tasks.remove(this);
-            while (true) {
-                try {
-                    if (error == null) {
-                        complete(value);
-                    } else {
-                        completeExceptionally(error);
-                    }
-                    return;
-                } catch (Throwable full) {
-                    Thread.yield();
-                }
+            end();
+            if (error == null) {
+                complete(value);
+            } else {
+                completeExceptionally(error);
             }
         }
 
-        /** Removes a cancelled, still waiting call from the queue. */
-        private void leaveQueue() {
-            if (threads.remove(this)) {
-                call = null;
-                tasks.remove(this);
-            }
+        /** Forgets the call, and frees its place. */
+        private void end() {
+            call = null;
+            tasks.remove(this);
+            places.release();
         }
     }
 
-    /** A thread of the queue. */
+    /** A thread of the queue, which ends once it has had no call for a while. */
     final class Worker extends Thread {
         /** The address and the length of the reusable buffer. */
         final long[] kept = new long[2];
-        private final HashQueue queue = HashQueue.this;
-        /** The call that is being made, or null while callbacks of its future run. */
-        private Task<?> current;
+        /** The call that is made, or whose callbacks run, or null. */
+        private Task<?> task;
+        /** Whether it is made. What callbacks compute is never stopped. */
+        private boolean isCalling;
 
-        private Worker(Runnable calls) {
-            super(null, calls, "argon2 queue", 0, false);
+        private Worker() {
+            super(null, null, "argon2 queue", 0, false);
             setDaemon(true);
         }
 
+        /** Makes calls, also those that were added after it had waited for long enough. */
         @Override
         public void run() {
             try {
-                super.run();
-            } catch (OutOfMemoryError denied) { // the system denied a thread that takes the place of this one
-                rejectWithoutThread();
+                do {
+                    makeCalls();
+                } while (!isClosed && !waiting.isEmpty() && startable.tryAcquire());
             } finally {
                 Native.free(kept);
             }
         }
 
-        /** Whether nobody waits for the call any more. What callbacks compute in this thread is never stopped. */
-        boolean isStopped() {
-            return current != null && current.isDone();
+        private void makeCalls() {
+            try {
+                for (task = next(); task != null; task = next()) {
+                    task.run(this);
+                    task = null; // an idle thread keeps no result
+                }
+            } finally {
+                startable.release();
+            }
+        }
+
+        /** Waits for a call, and returns null if the thread has to end. */
+        private Task<?> next() {
+            Thread.interrupted(); // callbacks may have left the thread interrupted
+            try {
+                Task<?> task = waiting.poll(idle.toNanos(), TimeUnit.NANOSECONDS);
+                if (task != end) {
+                    return task;
+                }
+                waiting.add(end);
+            } catch (InterruptedException interrupted) { // by somebody who has found the thread: it is replaced
+            }
+            return null;
         }
     }
 }

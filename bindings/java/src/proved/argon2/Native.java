@@ -14,7 +14,7 @@ final class Native {
     static final int NEEDS_REHASH = 68;
 
     /** The calls of {@link #make}, in the order of proved_argon2_java.c. */
-    enum Call { HASH, VERIFY, VERIFY_UNKNOWN, NEEDS_REHASH }
+    enum Call { HASH, HASH_RAW, VERIFY, VERIFY_UNKNOWN, NEEDS_REHASH }
 
     /**
      * The property that names the library's file, where the one in the jar cannot be used. Java loads one file for one
@@ -45,10 +45,11 @@ final class Native {
     static native long encodedLength(int[] settings);
 
     /**
-     * Makes a call. {@code HASH} writes the encoded hash, and a zero, to {@code text}, which other calls read. {@code
-     * VERIFY} returns {@link #NEEDS_REHASH} for a match with other settings or another length of the salt. {@code kept}
-     * is the address and the length of a reusable buffer, or null. If it is too small for the settings, a larger one
-     * takes its place. {@code isStopped} is called before each hash and after each slice.
+     * Makes a call. {@code HASH} writes the encoded hash, and a zero, to {@code text}, and {@code HASH_RAW} the raw hash;
+     * other calls read {@code text}. {@code VERIFY} returns {@link #NEEDS_REHASH} for a match with other settings or
+     * another length of the salt. {@code kept} is the address and the length of a reusable buffer, or null. If it is too
+     * small for the settings, a larger one takes its place. {@code isStopped} is called before each hash and after each
+     * slice; if it is null, nothing stops the call.
      */
     static native int make(int call, int[] settings, long[] limits, long[] kept, BooleanSupplier isStopped,
         byte[] password, byte[] salt, byte[] pepper, byte[] data, byte[] text);
@@ -58,12 +59,6 @@ final class Native {
 
     /** The message of an error. */
     static native String message(int number);
-
-    /** Whether nobody waits for this thread's call any more. */
-    static boolean isStopped() {
-        Thread thread = Thread.currentThread();
-        return thread instanceof HashQueue.Worker worker ? worker.isStopped() : thread.isInterrupted();
-    }
 
     /** Loads the library of the jar. */
     private static void loadOwn() {

@@ -9,14 +9,15 @@ import java.util.List;
 import java.util.Objects;
 import java.util.Optional;
 import java.util.function.Function;
+import proved.argon2.Argon2Exception.Reason;
 
 /**
  * Hashes and verifies passwords. A hasher never changes, and any number of threads may use it.
  *
  * <p>Passwords are {@code char[]}, which are hashed as UTF-8, or {@code byte[]}. A call clears each copy that it makes
- * of a password, and leaves the caller's array as it is. It stops with {@link Argon2Exception#STOPPED} soon after its
- * thread is interrupted. A call blocks its thread, and also the carrier of a virtual thread. Use a {@link
- * HashQueue} in virtual threads, or to limit how many hashes are computed at a time.
+ * of a password, and leaves the caller's array as it is. A call blocks its thread, and also the carrier of a virtual
+ * thread, until it returns; nothing stops it. Use a {@link HashQueue} in virtual threads, to stop calls, or to limit
+ * how many hashes are computed at a time.
  *
  * <p>Each call may throw an {@link Argon2Exception}. A wrong password is not an exception.
  *
@@ -65,10 +66,10 @@ public class PasswordHasher {
 
     /**
      * {@return the same hasher with a pepper, a secret key} {@link Peppers} manages several. An empty key throws {@link
-     * Argon2Exception#INVALID_PEPPERS}: it would be no pepper.
+     * Reason#INVALID_PEPPERS}: it would be no pepper.
      */
     public final PasswordHasher withPepper(byte[] key) {
-        Argon2Exception.require(key.length > 0, Argon2Exception.INVALID_PEPPERS);
+        Argon2Exception.require(key.length > 0, Reason.INVALID_PEPPERS);
         return new PasswordHasher(settings, limits, key.clone(), associatedData);
     }
 
@@ -87,6 +88,18 @@ public class PasswordHasher {
         byte[] salt = new byte[settings.saltLength()];
         random.nextBytes(salt);
         return hash(password, salt);
+    }
+
+    /** {@return the raw hash of a password, for example a key} The salt is used as it is, whatever its length. */
+    public final byte[] hashRaw(char[] password, byte[] salt) {
+        return encoded(CharBuffer.wrap(password), bytes -> hashRaw(bytes, salt));
+    }
+
+    /** {@return the raw hash of a password, for example a key} The salt is used as it is, whatever its length. */
+    public final byte[] hashRaw(byte[] password, byte[] salt) {
+        byte[] tag = output(settings.hashLength());
+        call(Native.Call.HASH_RAW, password, Objects.requireNonNull(salt), tag);
+        return tag;
     }
 
     /** {@return whether a stored hash is that of the password} */
@@ -147,11 +160,14 @@ public class PasswordHasher {
     }
 
     final String hash(byte[] password, byte[] salt) {
-        long length = Native.encodedLength(settings.numbers()) + 1;
-        Argon2Exception.require(length < LONGEST_ARRAY, Argon2Exception.OUT_OF_MEMORY);
-        byte[] text = new byte[(int) length];
+        byte[] text = output(Native.encodedLength(settings.numbers()) + 1);
         call(Native.Call.HASH, password, salt, text);
         return new String(text, 0, text.length - 1, StandardCharsets.US_ASCII);
+    }
+
+    private static byte[] output(long length) {
+        Argon2Exception.require(length < LONGEST_ARRAY, Reason.OUT_OF_MEMORY);
+        return new byte[(int) length];
     }
 
     /** Verifies a password, and hashes it with the newest hasher if the hash's pepper or settings differ. */
@@ -169,12 +185,12 @@ public class PasswordHasher {
 
     /** Makes a call with the UTF-8 of a password, and clears it. */
     static <T> T encoded(CharBuffer password, Function<byte[], T> call) {
-        Argon2Exception.require(password.remaining() <= LONGEST_ARRAY / MOST_BYTES, Argon2Exception.OUT_OF_MEMORY);
+        Argon2Exception.require(password.remaining() <= LONGEST_ARRAY / MOST_BYTES, Reason.OUT_OF_MEMORY);
         ByteBuffer buffer = ByteBuffer.allocate(MOST_BYTES * password.remaining());
         byte[] bytes = NONE;
         try {
             boolean isUnicode = !StandardCharsets.UTF_8.newEncoder().encode(password, buffer, true).isError();
-            Argon2Exception.require(isUnicode, Argon2Exception.NOT_UNICODE);
+            Argon2Exception.require(isUnicode, Reason.NOT_UNICODE);
             bytes = Arrays.copyOf(buffer.array(), buffer.position());
             return call.apply(bytes);
         } finally {
@@ -193,8 +209,10 @@ public class PasswordHasher {
     private int call(Native.Call call, byte[] password, byte[] salt, byte[] text, Integer... verdicts) {
         long[] kept = Thread.currentThread() instanceof HashQueue.Worker worker ? worker.kept : null;
         int number = Native.make(call.ordinal(), settings.numbers(), limits.numbers(), kept,
-            Native::isStopped, Objects.requireNonNull(password), salt, pepper, associatedData, text);
-        Argon2Exception.require(number == Native.OK || List.of(verdicts).contains(number), number);
+            HashQueue.stop(), Objects.requireNonNull(password), salt, pepper, associatedData, text);
+        if (number != Native.OK && !List.of(verdicts).contains(number)) {
+            throw Argon2Exception.of(number);
+        }
         return number;
     }
 }

@@ -3,6 +3,7 @@ package proved.argon2;
 import java.nio.CharBuffer;
 import java.util.HashMap;
 import java.util.Map;
+import proved.argon2.Argon2Exception.Reason;
 
 /**
  * Hashes with the newest of several peppers, and verifies with the one whose ID is stored beside the hash.
@@ -34,14 +35,14 @@ public final class Peppers {
      */
     public record Stored(String id, String hash) {}
 
-    /** Peppers for a hasher, the newest first. Wrong ones throw {@link Argon2Exception#INVALID_PEPPERS}. */
+    /** Peppers for a hasher, the newest first. Wrong ones throw {@link Reason#INVALID_PEPPERS}. */
     public Peppers(PasswordHasher hasher, Pepper... peppers) {
-        Argon2Exception.require(peppers.length > 0, Argon2Exception.INVALID_PEPPERS);
+        Argon2Exception.require(peppers.length > 0, Reason.INVALID_PEPPERS);
         newest = peppers[0].id;
         hashers = new HashMap<>();
         for (Pepper pepper : peppers) {
             PasswordHasher known = hashers.put(pepper.id, hasher.withPepper(pepper.key));
-            Argon2Exception.require(pepper.id != null && known == null, Argon2Exception.INVALID_PEPPERS);
+            Argon2Exception.require(pepper.id != null && known == null, Reason.INVALID_PEPPERS);
         }
     }
 
@@ -75,7 +76,7 @@ public final class Peppers {
     /** {@return whether the password is right, and what to store if the hash has an older pepper or other settings} */
     public Verdict<Stored> verifyAndUpdate(String id, String stored, byte[] password) {
         PasswordHasher hasher = hashers.get(id);
-        Argon2Exception.require(hasher != null, Argon2Exception.UNKNOWN_PEPPER);
+        Argon2Exception.require(hasher != null, Reason.UNKNOWN_PEPPER);
         Verdict<String> verdict = hasher.verifyAndUpdate(stored, password, hashers.get(newest));
         return new Verdict<>(verdict.matches(), verdict.update().map(hash -> new Stored(newest, hash)));
     }

@@ -19,7 +19,9 @@ public record Settings(
         int[] numbers = {variant.ordinal(), version.number, Math.max(0, memory), Math.max(0, passes),
             Math.max(0, lanes), Math.max(0, hashLength), Math.max(0, saltLength)};
         int error = Native.check(numbers);
-        Argon2Exception.require(error == Native.OK, error);
+        if (error != Native.OK) {
+            throw Argon2Exception.of(error);
+        }
     }
 
     // presets, by .ci/pages/presets

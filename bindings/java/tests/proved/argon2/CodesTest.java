@@ -1,13 +1,15 @@
 package proved.argon2;
 
 import static org.junit.jupiter.api.Assertions.*;
-import static proved.argon2.Argon2Exception.*;
+import static proved.argon2.Argon2Exception.Reason.*;
 import static proved.argon2.HashesTest.bytes;
+import static java.nio.charset.StandardCharsets.US_ASCII;
 
 import java.util.*;
 import java.util.function.*;
 import java.util.stream.Stream;
 import org.junit.jupiter.api.*;
+import proved.argon2.Argon2Exception.Reason;
 
 /** What calls return for each number of the library, over a stub that returns the numbers set here. */
 @Tag("codes")
@@ -39,13 +41,20 @@ class CodesTest {
             if (value.isPresent()) {
                 assertEquals(value.get(), number + "=" + call.get());
             } else {
-                int expected = number == NOT_ASCII ? DECODING_FAIL : number;
+                Reason expected = number == NOT_ASCII ? DECODING_FAIL : reasonOf(digits);
                 Argon2Exception error = assertThrows(Argon2Exception.class, call::get, digits);
-                assertEquals(expected, error.number());
-                assertTrue(error.getMessage().equals("N%03d".formatted(Integer.remainderUnsigned(expected, 1000)))
-                    || expected >= BUSY && expected <= NOT_UNICODE);
+                assertEquals(expected, error.reason());
+                String message = expected == UNEXPECTED ? ".*: " + digits : number == NOT_ASCII ? "N019" : "N0*" + digits;
+                assertTrue(error.getMessage().matches(message), error.getMessage());
             }
         }
+    }
+
+    /** The reason that is called as the library's header calls a number. */
+    private static Reason reasonOf(String digits) {
+        return Stream.of(System.getProperty("names").split(" ")).filter(pair -> pair.startsWith(digits + "="))
+            .flatMap(pair -> Stream.of(Reason.values()).filter(reason -> pair.endsWith("=" + reason))).findAny()
+            .orElse(UNEXPECTED);
     }
 
     private static void compare(String values, Supplier<Object> call) {
@@ -59,6 +68,8 @@ class CodesTest {
     @Test
     void eachNumberIsAValueOrItsError() {
         compare("0=true", number -> set(number, 0, 0), () -> Settings.owasp2() != null);
+        compare(table("hash_raw"),
+            () -> new String(hasher.hashRaw(PASSWORD, bytes("somesalt")), US_ASCII).replace("x".repeat(5), "tag"));
         compare(table("hash_encoded"), () -> hasher.hash(PASSWORD, bytes("somesalt")).replace("x".repeat(12), "text"));
         compare(table("verify_encoded_within") + " 68=true", () -> hasher.verify(STORED, PASSWORD));
         compare("0=false 64=false", () -> hasher.verifyUnknown(PASSWORD));
@@ -70,6 +81,8 @@ class CodesTest {
     void theLibraryIsPassedEachArgument() {
         hasher.hash(PASSWORD, bytes("somesalt"));
         assertTrue(seen().endsWith("|" + System.getProperty("passed.hash_encoded")), seen());
+        hasher.hashRaw(PASSWORD, bytes("somesalt"));
+        assertTrue(seen().endsWith("|" + System.getProperty("passed.hash_raw")), seen());
         hasher.verify(STORED, PASSWORD);
         assertTrue(seen().endsWith("|" + System.getProperty("passed.verify_encoded_within")), seen());
     }

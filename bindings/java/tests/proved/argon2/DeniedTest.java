@@ -1,16 +1,17 @@
 package proved.argon2;
 
 import static org.junit.jupiter.api.Assertions.*;
-import static proved.argon2.Argon2Exception.*;
+import static proved.argon2.Argon2Exception.Reason.*;
+import static proved.argon2.HashQueueTest.isBusy;
 import static proved.argon2.PasswordHasherTest.*;
 
 import java.io.IOException;
 import java.nio.file.*;
+import java.time.Duration;
 import java.util.*;
 import java.util.concurrent.*;
+import java.util.concurrent.atomic.AtomicInteger;
 import org.junit.jupiter.api.*;
-import org.junit.jupiter.params.ParameterizedTest;
-import org.junit.jupiter.params.provider.ValueSource;
 
 /** While a file {@code memory} or {@code threads} exists, that is denied; a file {@code once} denies memory once. */
 @Tag("denied")
@@ -61,7 +62,7 @@ class DeniedTest {
     void withoutThreadsCallsWaitForThoseThatThereAre() throws IOException {
         Path denied = deny("threads");
         for (int call = 0; call < 7; call++) {
-            assertFails(BUSY, () -> queue.submit(() -> ""));
+            assertTrue(isBusy(queue.submit(() -> "")));
         }
         assertTrue(hasher.verify(stored, new byte[0])); // one thread fills all lanes
         Files.delete(denied);
@@ -74,25 +75,30 @@ class DeniedTest {
         assertTrue(second.join());
     }
 
-    /** The last thread rejects it or, if that counted on a thread that a caller was then denied, this caller does. */
-    @ParameterizedTest
-    @ValueSource(booleans = {false, true})
-    void withoutThreadsACallIsRejectedOnceTheLastThreadDies(boolean isByCaller) throws Exception {
-        List<CompletableFuture<Void>> ends = List.of(new CompletableFuture<>(), new CompletableFuture<>());
-        ends.forEach(end -> queue.threads.execute(end::join));
-        Future<Integer> number = queue.submit(() -> "").handle((none, error) -> ((Argon2Exception) error).number());
-        deny("threads");
-        ends.get(0).completeExceptionally(new IOException());
-        HashQueueTest.await(() -> HashQueueTest.threads() == 1);
-        assertFalse(number.isDone());
-        ThreadFactory usual = queue.threads.getThreadFactory();
-        queue.threads.setThreadFactory(isByCaller ? calls -> null : usual); // (null is no error for the pool)
-        ends.get(1).completeExceptionally(new IOException());
-        HashQueueTest.await(() -> HashQueueTest.threads() == 0);
-        queue.threads.setThreadFactory(usual);
-        assertNotEquals(isByCaller, number.isDone());
-        assertFails(BUSY, () -> queue.submit(() -> ""));
-        assertEquals(BUSY, number.get(10, TimeUnit.SECONDS));
+    /**
+     * Threads are denied now and then, and end at once when they are idle. Each call is made once, or rejected; nobody
+     * waits for ever.
+     */
+    @Test
+    void threadsThatAreDeniedNowAndThenLoseNoCallAndRepeatNone() throws IOException, InterruptedException {
+        AtomicInteger made = new AtomicInteger();
+        List<CompletableFuture<Integer>> results = new ArrayList<>();
+        HashQueue fresh = new HashQueue(2, 1000, Duration.ZERO);
+        for (int round = 0; round < 200; round++) {
+            Path denied = deny("threads");
+            for (int call = 0; call < 3; call++) {
+                results.add(fresh.submit(made::incrementAndGet));
+            }
+            Files.delete(denied);
+            results.add(fresh.submit(made::incrementAndGet));
+        }
+        for (CompletableFuture<Integer> result : results) {
+            assertDoesNotThrow(() -> result.handle((value, error) -> value).get(20, TimeUnit.SECONDS));
+        }
+        long rejected = results.stream().filter(HashQueueTest::isBusy).count();
+        assertEquals(results.size() - rejected, made.get());
+        assertTrue(rejected > 0 && made.get() >= 200, rejected + " " + made);
+        fresh.close();
     }
 
     /** No call may be accepted because of another caller's thread, which is denied as well. */
@@ -104,13 +110,13 @@ class DeniedTest {
         CyclicBarrier start = new CyclicBarrier(count);
         for (int round = 0; round < 10; round++) {
             HashQueue fresh = new HashQueue(4, 64);
-            Callable<Integer> call = () -> {
+            Callable<Argon2Exception> call = () -> {
                 start.await();
-                return assertThrows(Argon2Exception.class, () -> fresh.submit(() -> "")).number();
+                return assertThrows(Argon2Exception.class, () -> fresh.run(() -> ""));
             };
             Path denied = deny("threads");
-            for (Future<Integer> number : callers.invokeAll(Collections.nCopies(count, call))) {
-                assertEquals(BUSY, number.get());
+            for (Future<Argon2Exception> error : callers.invokeAll(Collections.nCopies(count, call))) {
+                assertEquals(BUSY, error.get().reason());
             }
             Files.delete(denied);
             assertEquals("", fresh.run(() -> ""));

@@ -58,6 +58,7 @@ class HashesTest {
         String expected = "$%s$v=%s$m=%s,t=%s,p=%s$%s$%s".formatted(
             words[0], words[1], words[3], words[2], words[4], base64(salt), base64(hex(words[10])));
         assertEquals(expected, hasher.hash(password, salt), line);
+        assertArrayEquals(hex(words[10]), hasher.hashRaw(password, salt), line);
         PasswordHasher unlimited = hasher.withLimits(Limits.NONE);
         assertTrue(unlimited.verify(expected, password), line);
         assertFalse(unlimited.verify(expected, bytes("another")), line);

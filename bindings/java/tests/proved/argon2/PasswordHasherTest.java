@@ -1,12 +1,11 @@
 package proved.argon2;
 
 import static org.junit.jupiter.api.Assertions.*;
-import static proved.argon2.Argon2Exception.*;
+import static proved.argon2.Argon2Exception.Reason.*;
 import static proved.argon2.HashesTest.bytes;
 
 import java.lang.reflect.Proxy;
 import java.util.*;
-import java.util.concurrent.TimeUnit;
 import org.junit.jupiter.api.*;
 import org.junit.jupiter.api.function.Executable;
 import org.junit.jupiter.params.ParameterizedTest;
@@ -21,8 +20,8 @@ class PasswordHasherTest {
     private final byte[] password = bytes("password");
     private final PasswordHasher hasher = new PasswordHasher(SMALL);
 
-    static void assertFails(int number, Executable call) {
-        assertEquals(number, assertThrows(Argon2Exception.class, call).number());
+    static void assertFails(Argon2Exception.Reason reason, Executable call) {
+        assertEquals(reason, assertThrows(Argon2Exception.class, call).reason());
     }
 
     private static Settings settings(int memory, int passes, int lanes, int hashLength, int saltLength) {
@@ -63,6 +62,7 @@ class PasswordHasherTest {
         for (Executable call : new Executable[] {
             () -> hasher.hash(none), () -> hasher.verify(STORED, none), () -> hasher.verifyUnknown(none),
             () -> hasher.verifyAndUpdate(STORED, none), () -> hasher.hash((char[]) null),
+            () -> hasher.hashRaw(none, new byte[8]), () -> hasher.hashRaw(password, null),
             () -> hasher.verify(null, new byte[0]), () -> hasher.needsRehash(null), () -> hasher.encode(null),
             () -> hasher.withPepper(null), () -> hasher.withLimits(null), () -> new PasswordHasher((Settings) null),
             () -> new Settings(null, Version.VERSION_13, 64, 1, 1, 32, 16)}) {
@@ -71,11 +71,13 @@ class PasswordHasherTest {
     }
 
     @ParameterizedTest
-    @CsvSource({"7, 1, 1, 32, 16, 13", "-1, 1, 1, 32, 16, 13", "64, 0, 1, 32, 16, 11", "64, -1, 1, 32, 16, 11",
-        "64, 1, 0, 32, 16, 15", "64, 1, -1, 32, 16, 15", "64, 1, 16777216, 32, 16, 16", "64, 1, 1, 3, 16, 1",
-        "64, 1, 1, -1, 16, 1", "64, 1, 1, 32, 7, 5", "64, 1, 1, 32, -1, 5"})
-    void wrongSettingsAreRejected(int memory, int passes, int lanes, int hash, int salt, int number) {
-        assertFails(number, () -> settings(memory, passes, lanes, hash, salt));
+    @CsvSource({"MEMORY_TOO_LITTLE, 7, 1, 1, 32, 16", "MEMORY_TOO_LITTLE, -1, 1, 1, 32, 16",
+        "TIME_TOO_SMALL, 64, 0, 1, 32, 16", "TIME_TOO_SMALL, 64, -1, 1, 32, 16", "LANES_TOO_FEW, 64, 1, 0, 32, 16",
+        "LANES_TOO_FEW, 64, 1, -1, 32, 16", "LANES_TOO_MANY, 64, 1, 16777216, 32, 16",
+        "OUTPUT_TOO_SHORT, 64, 1, 1, 3, 16", "OUTPUT_TOO_SHORT, 64, 1, 1, -1, 16", "SALT_TOO_SHORT, 64, 1, 1, 32, 7",
+        "SALT_TOO_SHORT, 64, 1, 1, 32, -1"})
+    void wrongSettingsAreRejected(Argon2Exception.Reason reason, int memory, int passes, int lanes, int hash, int salt) {
+        assertFails(reason, () -> settings(memory, passes, lanes, hash, salt));
     }
 
     @ParameterizedTest
@@ -110,6 +112,7 @@ class PasswordHasherTest {
         assertFails(OUT_OF_MEMORY, () -> large.verifyUnknown(password));
         PasswordHasher longest = new PasswordHasher(settings(64, 1, 1, Integer.MAX_VALUE, 16));
         assertFails(OUT_OF_MEMORY, () -> longest.hash(password));
+        assertFails(OUT_OF_MEMORY, () -> longest.hashRaw(password, new byte[8]));
         String stored = STORED.replace("m=256", "m=4294967295");
         assertFails(OUT_OF_MEMORY, () -> hasher.withLimits(Limits.NONE).verify(stored, password));
         assertEquals(new Verdict<>(true, Optional.empty()), large.verifyAndUpdate(STORED, password));
@@ -132,24 +135,25 @@ class PasswordHasherTest {
         }
     }
 
+    /** Nothing stops it, and the thread stays interrupted. */
     @Test
-    void interruptionStopsAHash() throws InterruptedException {
-        for (Executable call : new Executable[] {() -> ENDLESS.hash(password),
-            () -> ENDLESS.verify(STORED.replace("m=256,t=2", "m=1024,t=1000000"), password),
-            () -> ENDLESS.verifyUnknown(password)}) {
-            boolean[] wasStopped = new boolean[1];
-            Thread thread = new Thread(() -> {
-                assertFails(STOPPED, call);
-                assertFails(STOPPED, () -> hasher.hash(password)); // it does not begin
-                wasStopped[0] = hasher.needsRehash(STORED) && Thread.interrupted();
-            });
-            thread.start();
-            TimeUnit.MILLISECONDS.sleep(100);
-            assertTrue(thread.isAlive());
-            thread.interrupt();
-            thread.join(5000);
-            assertTrue(wasStopped[0]);
-        }
+    void aDirectCallOfAnInterruptedThreadRunsToItsEnd() {
+        Thread.currentThread().interrupt();
+        assertTrue(hasher.verify(hasher.hash(password), password));
+        assertTrue(Thread.interrupted());
+    }
+
+    /** (the salt's length is not that of the settings) */
+    @Test
+    void aRawHashHasTheLengthOfTheSettings() {
+        byte[] salt = bytes("somesalt");
+        String expected = STORED.substring(STORED.lastIndexOf('$') + 1);
+        PasswordHasher other = new PasswordHasher(settings(256, 2, 1, 32, 16));
+        assertEquals(expected, Base64.getEncoder().withoutPadding().encodeToString(other.hashRaw(password, salt)));
+        assertArrayEquals(other.hashRaw(password, salt), other.hashRaw("password".toCharArray(), salt));
+        assertEquals(1000, new PasswordHasher(settings(64, 1, 1, 1000, 16)).hashRaw(password, salt).length);
+        assertFails(SALT_TOO_SHORT, () -> other.hashRaw(password, new byte[7]));
+        assertFails(NOT_UNICODE, () -> other.hashRaw(new char[] {'\ud800'}, salt));
     }
 
     @Test
@@ -172,25 +176,20 @@ class PasswordHasherTest {
      */
     @ParameterizedTest
     @ValueSource(ints = {4, 32, 64, 1000})
-    void anUnknownUserCostsAsMuchAsAKnownOne(int hashLength) throws InterruptedException {
-        PasswordHasher known = new PasswordHasher(settings(7168, 5, 1, hashLength, 16));
-        String stored = known.hash(password);
-        assertEquals(21, slices(() -> known.verify(stored, new byte[0])));
-        assertEquals(21, slices(() -> known.verifyUnknown(new byte[0])));
+    void anUnknownUserCostsAsMuchAsAKnownOne(int hashLength) {
+        Settings settings = settings(7168, 5, 1, hashLength, 16);
+        byte[] stored = bytes(new PasswordHasher(settings).hash(password));
+        assertEquals(21, slices(Native.Call.VERIFY, settings, stored));
+        assertEquals(21, slices(Native.Call.VERIFY_UNKNOWN, settings, new byte[0]));
     }
 
-    /** Counts how often a call asks whether its thread is interrupted: before it begins, and after each slice. */
-    private static int slices(Runnable call) throws InterruptedException {
+    /** Counts how often a call asks whether to stop: before it begins, and after each slice. */
+    private static int slices(Native.Call call, Settings settings, byte[] text) {
         int[] asked = new int[1];
-        Thread thread = new Thread(call) {
-            @Override
-            public boolean isInterrupted() {
-                asked[0]++;
-                return false;
-            }
-        };
-        thread.start();
-        thread.join();
+        byte[] none = {};
+        int number = Native.make(call.ordinal(), settings.numbers(), Limits.DEFAULT.numbers(), null,
+            () -> asked[0]++ < 0, none, none, none, none, text);
+        assertEquals(Native.MISMATCH, number);
         return asked[0];
     }
 }

@@ -1,7 +1,7 @@
 package proved.argon2;
 
 import static org.junit.jupiter.api.Assertions.*;
-import static proved.argon2.Argon2Exception.*;
+import static proved.argon2.Argon2Exception.Reason.*;
 import static proved.argon2.PasswordHasherTest.*;
 
 import java.util.Optional;
