@@ -102,10 +102,11 @@ def options():
 def builds(machine):
     """What each placeholder means for all builds of a machine together, and for each build, the oldest first."""
     each = [{'name': build, 'word': build.replace('-', '_'), 'WORD': build.replace('-', '_').upper(),
-             'FLAGS': ', '.join(flags).upper(), 'flags': ' '.join(flags)}
+             'FLAGS': ', '.join(flags).upper(), 'flags': ' '.join(flags),
+             **dict(zip(('open', 'close'), ('', '') if build in machine.proved else ('WITH_KERNEL(', ')')))}
             for build, flags in flags_of_builds().items() if build in machine.builds]
     programs = [put_in(build, '<name>: <flags>') for build in each if build['name'] in machine.proved]
-    macro = ' \\\n'.join(put_in(build, '    each(<WORD>, <word>, __VA_ARGS__)') for build in each)
+    macro = ' \\\n'.join(put_in(build, '    <open>each(<WORD>, <word>, __VA_ARGS__)<close>') for build in each)
     return [{'name': 'all', 'oldest': each[0]['name'], 'programs': '\n'.join(programs), 'macro': macro}], each
 
 

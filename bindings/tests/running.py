@@ -92,6 +92,19 @@ def built(part=MACHINE):
     return pathlib.Path(run("build/prepare", part, timeout=4800).strip())
 
 
+def linked_without_kernels(folder):
+    """Links the library as SECURITY.md says, without compression that is not proved, and returns the folder with it."""
+    command, = re.findall(rf"^    (BUILDS=.* build/link {MACHINE}) release out ", (TOP / "SECURITY.md").read_text(), re.M)
+    run("sh", "-c", f'{command} "$0" "$1"', built(), folder)
+    return folder / MACHINE
+
+
+def is_without_kernels(program):
+    """Whether a program contains each build of the library whose compression is proved, and no other one."""
+    names = run("nm", program)
+    return [build for build in BUILDS if f" proved_{build.replace('-', '_')}_" in names] == PROVED
+
+
 def ahead(request, name, work, at_once=None):
     """For fixtures: starts work for each value that a parameter has in the module's chosen tests. Returns a function
     that waits for a value's result, and starts work for other values."""

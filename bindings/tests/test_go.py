@@ -7,7 +7,8 @@ import shutil
 import subprocess
 
 import pytest
-from running import CC, CODES, HEADER, MACHINE, NUMBERS, TOP, VERSION, built, needs, refuses, run, start
+from running import CC, CODES, HEADER, MACHINE, NUMBERS, TOP, VERSION, built, is_without_kernels
+from running import linked_without_kernels, needs, refuses, run, start
 
 MODULE, HERE = TOP / "bindings/go", TOP / "bindings/tests"
 NAME = re.search("^module (.*)$", (MODULE / "go.mod").read_text(), re.M)[1]
@@ -164,6 +165,13 @@ def test_cgo_and_unsafe_code_are_only_in_one_file():
 def test_the_tests_of_the_module_pass(module, env, drawn, words, more):
     said = run("go", "test", "-count=1", "-v", *words, "./...", cwd=module, env={**env, **drawn, **more})
     assert len(re.findall("^--- PASS", said, re.M)) == len(re.findall("^=== RUN", said, re.M)) > 20
+
+
+def test_a_program_links_the_library_without_kernels(env, tmp_path):
+    module = copy_module(tmp_path, linked_without_kernels(tmp_path / "linked") / "libproved_argon2.a")
+    run("go", "test", "-c", "-o", tmp_path / "program", cwd=module, env=env)
+    assert is_without_kernels(tmp_path / "program")
+    run(tmp_path / "program", "-test.run", "^Example$", cwd=module)
 
 
 @pytest.mark.parametrize("build", ["x86-64-v2", "none"])

@@ -4,7 +4,8 @@ import re
 import shutil
 
 import pytest
-from running import BUILDS, CC, MACHINE, PROVED, TOP, VERSION, flags_of, needs, refuses, run, start
+from running import BUILDS, CC, MACHINE, PROVED, TOP, VERSION, flags_of, is_without_kernels, linked_without_kernels
+from running import needs, refuses, run, start
 
 LIBRARY = "libproved_argon2.so"
 EXAMPLE = TOP / "bindings/c/tests/example.c"
@@ -108,6 +109,15 @@ def test_registers_of_256_and_512_bits_are_only_in_the_builds_for_their_processo
         (installed / f"libexec/proved-argon2/{MACHINE}/argon2_tool", {"ymm", "zmm"}),
     ):
         assert {*re.findall(r"%([yz]mm)\d", run("objdump", "-d", file))} == expected, file
+
+
+def test_the_library_without_kernels_has_no_code_for_avx_512(built, installed, tmp_path):
+    folder, program = linked_without_kernels(tmp_path), tmp_path / "example"
+    for library in folder / "libproved_argon2.a", folder / f"{LIBRARY}.1":
+        assert {*re.findall(r"%([yz]mm)\d", run("objdump", "-d", library))} == {"ymm"}
+    run(CC, "-I", TOP / "bindings/c/include", EXAMPLE, folder / "libproved_argon2.a", "-pthread", "-o", program)
+    assert is_without_kernels(program) and "\npassed: the tag " in f"\n{run(program)}"
+    refuses(1, "", program, env={"PROVED_ARGON2_CPU": "x86-64-v4"})
 
 
 def test_the_files_require_no_processor_and_run_nothing_when_loaded(installed, examples):

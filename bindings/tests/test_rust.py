@@ -9,7 +9,7 @@ import textwrap
 
 import pytest
 from running import CC, CODES, CRATES_OF_DEBIAN, HEADER, MACHINE, MEMORIES, NUMBERS, TOP, built as built_part
-from running import fetch, needs, project, refuses, run, start, with_crate
+from running import fetch, is_without_kernels, linked_without_kernels, needs, project, refuses, run, start, with_crate
 
 CRATE, HERE = TOP / "bindings/rust", TOP / "bindings/tests"
 REGISTRY = pathlib.Path("/usr/share/cargo/registry")
@@ -234,6 +234,13 @@ def test_a_program_succeeds(cargo, tmp_path, name):
     main = {"serde": SERDE, "page": OF_PAGE % "\n".join(functions)}.get(name) or (HERE / f"{name}.rs").read_text()
     folder = project(tmp_path / f"of_{name}", main, crates)
     run(*RUN, cwd=folder, env={**cargo, "RUSTFLAGS": f"{os.environ.get('RUSTFLAGS', '')} {flags}"})
+
+
+def test_a_program_links_the_library_without_kernels(cargo, tmp_path):
+    folder = project(tmp_path / "without", PROGRAM)
+    run(*RUN, cwd=folder, env={**cargo, "CARGO_TARGET_DIR": tmp_path / "target",
+                               "PROVED_ARGON2_LIB_DIR": linked_without_kernels(tmp_path)})
+    assert is_without_kernels(tmp_path / "target/debug/without")
 
 
 def test_a_program_with_the_traits_of_password_hash_0_6_succeeds(cargo, tmp_path):

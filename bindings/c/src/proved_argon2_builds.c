@@ -78,13 +78,13 @@ static const struct {
 #ifdef __aarch64__
     /* builds for ARM64, by .ci/pages/presets */
     [ARMV8_A] = {.name = "armv8-a"},
-    [ARMV8_A_NEON] = {.name = "armv8-a-neon"},
+    WITH_KERNEL([ARMV8_A_NEON] = {.name = "armv8-a-neon"},)
 /* end */
 #else
     /* builds, by .ci/pages/presets */
     [X86_64_V2] = {"x86-64-v2", {CX16, LAHF_LM, POPCNT, PNI, SSE4_1, SSE4_2, SSSE3}},
     [X86_64_V3] = {"x86-64-v3", {ABM, AVX, AVX2, BMI1, BMI2, F16C, FMA, MOVBE}},
-    [X86_64_V4] = {"x86-64-v4", {AVX512BW, AVX512CD, AVX512DQ, AVX512F, AVX512VL}},
+    WITH_KERNEL([X86_64_V4] = {"x86-64-v4", {AVX512BW, AVX512CD, AVX512DQ, AVX512F, AVX512VL}},)
     /* end */
 #endif
 };
