@@ -1,4 +1,4 @@
-"""What CI's tests share: the path of their modules, what is built, and which programs exist."""
+"""The fixtures that CI's tests share: the path of their modules, what is built, and which programs exist."""
 
 import shutil
 import sys

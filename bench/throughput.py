@@ -20,7 +20,7 @@ from times import kept, kinds, load_all, prepare
 # owasp2 and rfc9106_low_mem: KiB, passes, lanes, and the threads that fill them.
 SETTINGS = (19456, 2, 1, 1), (65536, 3, 1, 1)
 CALLERS = sorted({1, 2, 4, 2 * os.cpu_count()})
-# What is compared: our one-shot calls and those over a kept buffer, and the peers that a service in C would use.
+# We compare our one-shot calls and those over a kept buffer, and the peers that a service in C would use.
 NAMES = 'v4', 'reusing', 'libsodium', 'reference-native', 'libargon2'
 ROUNDS, PERCENT = 2, 99
 

@@ -45,7 +45,7 @@ def timed(call, *arguments):
 
 
 def ours(library, cost, memory=0, length=0):
-    """By the call with options, which Rust and Python make too."""
+    """Makes the call with options, as Rust and Python do."""
     options, settings = 'NIPNPPPPPP', struct.pack('6I', ARGON2ID, VERSION, *cost[:3], len(TAG))
     packed = struct.pack(options, struct.calcsize(options), cost[3], memory, length, 0, 0, 0, 0, 0, 0)
     nothing = None, c_size_t(0)

@@ -7,7 +7,7 @@ OPENS, CLOSES = r'[ \t]*(?:<!--|//|/\*|--|#|\.\\") ', r'(?: -->| \*/)?'
 
 
 def marked(text, name, script):
-    """Where a file has a part, as a match whose first group is what stands there, or None."""
+    """Returns where a file has a part, as a match whose first group is what stands there, or None."""
     begin = rf'^{OPENS}{re.escape(name)}, by {re.escape(script)}{CLOSES}\n'
     return re.search(rf'{begin}(.*?)\n?^{OPENS}end{CLOSES}$', text, re.M | re.S)
 

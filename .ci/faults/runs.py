@@ -28,7 +28,7 @@ NOTE = re.compile(r'^(request|freed|start|refused|denied|late|VmHWM:.*)\n', re.M
 VALUE, NO_MEMORY, NO_WORKER = 'value', 'Out of memory\n', 'A worker was refused\n'
 VARIANTS, VERSIONS = ('argon2d', 'argon2i', 'argon2id'), (16, 19)
 SEED = os.environ.get('SEED') or str(random.randrange(1 << 32))
-# What is built here, and copies that no simultaneous build replaces.
+# The programs that are built here, and copies that no simultaneous build replaces.
 FOLDER = tempfile.TemporaryDirectory()
 os.chmod(FOLDER.name, 0o711)  # (for users who are not root)
 FAULTS = str(build_preloaded(TOP / '.ci/faults/faults.c', FOLDER.name))
@@ -96,7 +96,7 @@ class Hash(NamedTuple):
         return ['hash', *self.settings(), self.salt.decode()]
 
     def starts(self):
-        """How many workers are started: so many for each slice, or none if only the caller works."""
+        """Returns how many workers are started: this many for each slice, or none if only the caller works."""
         workers = self.lanes if self.most is None else min(self.most, self.lanes)
         return SLICES * self.passes * workers if workers > 1 else 0
 
@@ -107,5 +107,5 @@ class Hash(NamedTuple):
                            Type(VARIANTS.index(self.variant)), self.version).decode()
 
     def output(self):
-        """What is written."""
+        """Returns what is written."""
         return f'{base64.b64decode(self.text().rpartition("$")[2] + "==").hex()}\n{self.text()}\n'

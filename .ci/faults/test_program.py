@@ -26,7 +26,7 @@ LONGEST, LONGEST_OF_TOOL, BESIDE = (1 << 32) - 1, 1 << 16, 6 << 30 if OTHER else
 TRUE, FALSE, USAGE, INPUT = (0, 'true\n', ''), (1, 'false\n', ''), (3, '', 'usage\n'), (4, '', 'input\n')
 ABOVE, TOO_LONG = (5, '', 'The encoded hash is above the limits\n'), (2, '', 'Password is too long\n')
 NO_TEXT, SHORT_SALT = (2, '', 'Decoding failed\n'), (2, '', 'Salt is too short\n')
-# What the tool adds to some lines.
+# The tool adds these words to some lines.
 ADDED = re.compile(
     rf'(?<=^{USAGE[2]})(.*see --help|.*an argument is not UTF-8)\n$|(?<=^{NO_TEXT[2]}).*quotes\n$'
     rf'|(?<=^{ABOVE[2]}).* 2 GiB, 10 passes, 16 lanes and the work of 4 GiB in one pass\n$')

@@ -55,8 +55,9 @@ def each(hashes):
 
 
 def blocks(settings):
-    """How many blocks are compressed: the matrix in each pass, except in the first pass the first two of each lane. A
-    segment whose references depend on no block adds two per 128 references, unless it has only those first two."""
+    """Returns how many blocks are compressed: the matrix in each pass, except in the first pass the first two of each
+    lane. A segment whose references depend on no block adds two per 128 references, unless it has only those first
+    two."""
     length = settings.memory // (SLICES * settings.lanes)
     slices = {'argon2d': 0, 'argon2id': 2, 'argon2i': SLICES * settings.passes}[settings.variant]
     slices -= slices > 0 and length == 2
@@ -65,7 +66,7 @@ def blocks(settings):
 
 
 def compressed_by(name, *words, input_bytes=PASSWORD):
-    """What a program writes, and how many blocks it compresses, by callgrind."""
+    """Returns what a program writes, and how many blocks it compresses, by callgrind."""
     program = copy_of(name)
     profile = program.with_suffix('.profile')
     callgrind = ['valgrind', '--quiet', '--tool=callgrind', '--compress-strings=no', f'--callgrind-out-file={profile}']
@@ -75,7 +76,7 @@ def compressed_by(name, *words, input_bytes=PASSWORD):
 
 
 def growths(settings):
-    """How often the string with a hash's printed lines grows while `format!` adds piece by piece."""
+    """Returns how often the string with a hash's printed lines grows while `format!` adds piece by piece."""
     capacity = count = 0
     for end in accumulate(map(len, re.findall(r'.+|\n', settings.output()))):
         if end > capacity:
@@ -103,7 +104,7 @@ def test_the_program_compresses_each_block_once(settings):
 
 @each(OF_MODES)
 def test_calls_in_each_mode_compress_each_block_once(settings):
-    """As above, for Rattle's calls in each mode and one thread."""
+    """Rattle's calls, in each mode and with one thread, meet the same limits."""
     tag, text = settings.output().split()
     inputs = f"{' '.join(map(str, settings[:6]))} all '{PASSWORD.decode()} '{settings.salt.decode()} - -"
     lines = f'hash_raw {inputs}\nhash_encoded {inputs}\nverify_raw {inputs} {tag}\n'

@@ -23,7 +23,7 @@ def is_well(parents, subject, body):
 
 
 def has_fewer(commit):
-    """Whether a commit removes rows of known faults, or more lines with checks than it adds."""
+    """Returns whether a commit removes rows of known faults, or more lines with checks than it adds."""
     opened = [run('git', 'show', f'{at}:{OPEN}').stdout.count(' | ') for at in (f'{commit}~', commit)]
     changed = run('git', 'show', '--unified=0', '--format=', commit, '--', *PLACES).stdout
     gone, new = (len(re.findall(CHECK.format(re.escape(sign)), changed, re.M)) for sign in '-+')

@@ -60,7 +60,7 @@ def operand(text):
 
 
 def readers(words):
-    """What reads operands, of which the last may say how the one before is shifted."""
+    """Returns what reads operands, of which the last may say how the one before is shifted."""
     shift, _, count = words[-1].partition(' ')
     if shift not in SHIFTS:
         return [operand(word)[0] for word in words]
@@ -78,7 +78,7 @@ def inserted(words, shifted, count):
                  for kept, word in zip(words, shifted))
 
 
-# What instructions make of their operands; those of ONTO also read the register that they write. For vectors, each
+# The functions that instructions compute of their operands; those of ONTO also read the register that they write. For vectors, each
 # operand's arrangement follows the name.
 VECTOR = {
     'add 2d 2d 2d': each(add), 'eor 16b 16b 16b': each(lambda x, y: x ^ y), 'shl 2d 2d': each(left),

@@ -93,8 +93,8 @@ class Code:
             raise Fault(f'it jumps to or calls {", ".join(map(hex, sorted(astray)))}, where no instruction begins')
 
     def calls(self, begin):
-        """How many instructions call a function. A jump behind the end of another function is no call: ld puts such a
-        jump, which nothing reaches, in front of its workaround for a fault of the Cortex-A53 (843419)."""
+        """Returns how many instructions call a function. A jump behind the end of another function is no call: ld puts
+        such a jump, which nothing reaches, in front of its workaround for a fault of the Cortex-A53 (843419)."""
         call = re.compile(rf'(?:call|jmp|bl?)\s+{begin:#x}')
         texts = [text for text, _ in self.instructions.values()]
         return sum(bool(call.fullmatch(text)) and (before, text[:2]) != ('ret', 'b\t')
@@ -105,18 +105,18 @@ class Code:
         return {at for at, (text, _) in self.instructions.items() if MULTIPLIES.match(text)}
 
     def begins(self, function):
-        """Where a function begins, once for each build."""
+        """Returns where a function begins, once for each build."""
         return sorted(begin for begin, name in self.names.items() if name.endswith(f'::{function.name}'))
 
     def at(self, address):
-        """What an instruction does, and its size."""
+        """Returns what an instruction does, and its size."""
         if address not in self.instructions:
             raise Fault(f'there is no instruction at {address:#x}')
         text, size = self.instructions[address]
         return self.decode(text), size
 
     def place(self, address):
-        """Where in the file an address is."""
+        """Returns where in the file an address is."""
         return next((at + address - begin for size, begin, at in self.code + self.data if 0 <= address - begin < size),
                     None)
 

@@ -1,4 +1,4 @@
-"""What the machines have in common: memory, and running a function on terms instead of numbers."""
+"""The parts that all machines share: memory, and running a function on terms instead of numbers."""
 
 import operator
 import re
@@ -85,7 +85,7 @@ class Machine:
         self.memory.update(zip(places, words))
 
     def clear(self, address, byte, size):
-        """What memset does."""
+        """Clears memory as memset does."""
         if not isinstance(size, int) or size % WORD or byte != 0:
             raise Fault('it fills memory with other than words of zero')
         # (places() first rejects a wrong size, whose zeros may exceed memory)
@@ -110,14 +110,14 @@ class Machine:
         self.flags = (one, other) if isinstance(one, int) and isinstance(other, int) else None
 
     def holds(self, condition):
-        """Whether a condition holds, which may depend only on numbers."""
+        """Returns whether a condition holds, which may depend only on numbers."""
         if self.flags is None or condition not in CONDITIONS:
             raise Fault(f'it depends on data, or the condition {condition} is not known')
         return CONDITIONS[condition](*self.flags)
 
     def fault(self, words, cleared):
-        """What is wrong with a function's results, which have to be words in the written region, and this many zeros in
-        its own frame."""
+        """Returns what is wrong with a function's results, which have to be words in the written region, and this many
+        zeros in its own frame."""
         wrong = [at for at, word in enumerate(words) if self.word_at(self.written, WORD * at) != word]
         changed = [name for name in (*self.saved, self.stack_pointer) if self.registers[name] != self.before[name]]
         zeros = sum(region == 'stack' and word == 0 for (region, _), word in self.memory.items())

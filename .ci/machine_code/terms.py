@@ -9,7 +9,7 @@ MASK = (1 << BITS) - 1
 
 
 class Fault(Exception):
-    """What is wrong with code, or is unknown."""
+    """Says what is wrong with code, or is not known."""
 
 
 class Term:

@@ -43,7 +43,7 @@ def read_with(code, bits):
 
 
 def instructions_with(code, bits):
-    """What each instruction becomes if only its bit is flipped, by its address."""
+    """Returns what each instruction becomes if only its bit is flipped, by its address."""
     try:
         other = read_with(code, bits.values()).instructions
     except Fault:  # (in a module, an invalid instruction ends the disassembly)

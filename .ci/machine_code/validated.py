@@ -82,7 +82,8 @@ def builds_of(path):
 
 
 def faults_of_function(code, function, begin):
-    """What is wrong with a function, for both flags, wherever the stack begins, and which instructions were run."""
+    """Returns what is wrong with a function, for both flags, wherever the stack begins, and which instructions were
+    run."""
     runs = [function.run(code, begin, flag, entry) for flag in FLAGS for entry in code.kind.entries]
     met = set.union(*(machine.met for machine, _ in runs))
     faults, below = {fault for _, fault in runs if fault}, max(machine.below for machine, _ in runs)
@@ -97,7 +98,7 @@ def faults_of_function(code, function, begin):
 
 
 def faults_of(path):
-    """What is wrong with both functions in a file, for each build of its machine."""
+    """Returns what is wrong with both functions in a file, for each build of its machine."""
     try:
         code = code_of(path)
         code.validate()

@@ -46,7 +46,7 @@ class Module:
 
     @staticmethod
     def place(address):
-        """Where in the file an instruction is."""
+        """Returns where in the file an instruction is."""
         return address
 
     @staticmethod
@@ -55,7 +55,7 @@ class Module:
         raise Fault(f'it reads at {address:#x}')
 
     def traps(self, address):
-        """Whether a jump leads to nothing but a trap."""
+        """Returns whether a jump leads to nothing but a trap."""
         text, size, _ = self.instructions[address]
         return self.traps(address + size) if text == 'end' else text == 'unreachable'
 
@@ -64,7 +64,7 @@ class Module:
         run('wasm-validate', '--enable-memory64', '--enable-threads', self.path)
 
     def calls(self, number):
-        """How many instructions call a function."""
+        """Returns how many instructions call a function."""
         return [text for text, *_ in self.instructions.values()].count(f'call {number}')
 
     def multiplications(self):
@@ -125,7 +125,7 @@ class Wasm(Machine):
         return self.operands.pop()
 
     def step(self, name, words):
-        """What an instruction that does not jump leaves on the stack, if anything."""
+        """Returns what an instruction that does not jump leaves on the stack, if anything."""
         if name.partition('.')[0] in ('local', 'global'):
             return self.move(name, words[0])
         if name in ('i64.const', 'i32.const'):
@@ -169,7 +169,7 @@ class Wasm(Machine):
         return int(self.holds(condition))
 
     def jump(self, to):
-        """Where it jumps, or None. It would jump to a trap if the stack had no room."""
+        """Returns where it jumps, or None. It would jump to a trap if the stack had no room."""
         chooses = self.pop()
         if chooses is NO_STACK and self.code.traps(to):
             return None

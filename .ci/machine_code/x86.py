@@ -49,8 +49,8 @@ class X86(Machine):
     return_address = pop
 
     def fault(self, words, cleared):
-        """What is wrong. It is also wrong if words of blocks stay in a vector, except in the halves that the driver
-        clears. memset leaves no such words there."""
+        """Returns what is wrong. It is also wrong if words of blocks stay in a vector, except in the halves that the
+        driver clears. memset leaves no such words there."""
         known = self.fresh('left')
         stay = [name for at, name in enumerate(VECTORS) if not all(
             word in (0, before, left) for word, before, left in [
@@ -67,7 +67,7 @@ def vector(name, size, keeps_rest):
 
 
 def address(base, index, scale, offset):
-    """What reads the address of a place in memory."""
+    """Returns what reads the address of a place in memory."""
     offset = int(offset or '0', 16)
     if {base, index} - {None, 'rip', *WHOLE}:
         raise Fault(f'the address over {base} and {index} is not known')
@@ -82,7 +82,7 @@ def memory(size, unit, at):
 
 
 def operand(text, mnemonic):
-    """What reads an operand, and what writes it."""
+    """Returns what reads an operand, and what writes it."""
     if text in WHOLE or text in LOWER and mnemonic in NAMES_OF_LOW:
         return register(LOWER.get(text, text), LOW if text in LOWER else MASK)
     if text[1:] in VECTORS and text[0] in SIZES:

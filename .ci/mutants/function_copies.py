@@ -7,7 +7,7 @@ BY_A_CALL = re.compile(r'no proof: it calls `|not proved; it waits for ')
 ERROR = re.compile(r'^(?:\./)?(\S+?):(\d+):\d+: error(?:\[[\w-]+\])?: (.*(?:\n  .*)*)', re.M)
 UNPROVED = re.compile(r'^note: \S+: it is not proved that .*?\(`([^`]+)`\)', re.M)
 SEARCHED = re.compile(r'`search` did not prove (`[^`]+`(?:, `[^`]+`)*)')
-# How a message begins where a proof file names what an edit took away.
+# A message begins so if a proof file names something that an edit removed.
 NAMES = re.compile(r'has no field|is not in scope|has no `|was not admitted|^(?:`[^`]*`: )?record `[^`]*`')
 # If a function has an open goal and no fault in its answers, the checker searches again, for proofs to offer to the
 # author. So we put a fault into a wrong body's answers, and judge the body by its open goals.
@@ -27,7 +27,7 @@ class Copy:
         self.text = re.sub(rf'\bfn {self.function.name}\b', f'fn {self.name}', text, count=1)
 
     def is_called(self, place):
-        """Whether this is the checker's name, also for closures."""
+        """Returns whether this is the checker's name, also for closures."""
         return self.name in place.split('::')
 
     def proofs(self, folder):
@@ -45,7 +45,7 @@ class Copy:
 
 
 def can_be_copied(edit, folder):
-    """Whether an edit changes only one function's body, which is not a trait's and does not call itself."""
+    """Returns whether an edit changes only one function's body, which is not a trait's and does not call itself."""
     function = edit.function
     is_of_trait = function is None or function.owner and ' for ' in function.owner
     if edit.is_of_theorem or {*edit.functions} != {function} or is_of_trait:
@@ -65,7 +65,7 @@ def texts_with(copies, folder):
 
 
 class Report:
-    """What a check wrote: the verdict of each function, and its errors, each joined to one line."""
+    """A check's output: the verdict of each function, and the errors, each joined to one line."""
 
     def __init__(self, output):
         parts = VERDICT.split(output)  # the notes on a function stand right above its verdict
@@ -79,7 +79,7 @@ class Report:
         return '{}:{}: {}'.format(*self.errors[0]) if self.errors else self.last
 
     def is_refused(self, place):
-        """Whether a function is refused for its own faults."""
+        """Returns whether a function is refused for its own faults."""
         said = self.verdicts.get(place, '')
         is_refused = said.startswith(('not proved', 'no proof')) and not BY_A_CALL.match(said)
         return is_refused and not (self.has_fault(place) and not any(self.goals_left(place)))
@@ -91,7 +91,7 @@ class Report:
         return [error for error in self.errors if error[0].startswith(folders)]
 
     def has_fault(self, place):
-        """Whether its answers have the fault that was planted."""
+        """Returns whether its answers have the fault that was planted."""
         return any(map(is_put_there, self.errors_of(place)))
 
     def goals_left(self, place):
@@ -107,7 +107,7 @@ class Report:
 
 
 def is_put_there(error):
-    """Whether an error is that of the planted FAULT."""
+    """Returns whether an error is that of the planted FAULT."""
     return error[2].startswith(f'`{NO_OFFERS}`: ')
 
 

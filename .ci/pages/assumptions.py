@@ -1,4 +1,4 @@
-"""What pages claim of the sources and of the toolchain: what depends on secrets (bindings/c/tests/secrets/depends.txt),
+"""Writes what pages claim of the sources and of the toolchain: what depends on secrets (bindings/c/tests/secrets/depends.txt),
 what the prover takes without proof, and the hash of the theorems' statements that pinned.txt lists.
 """
 
@@ -53,8 +53,8 @@ def report_of(crate, built):
 
 
 def lines_of(crate, built, report):
-    """What a proof loads and assumes, and what the built file calls. What a WebAssembly module calls is seen by its
-    imports (bindings/wasm/tests)."""
+    """Returns what a proof loads and assumes, and what the built file calls. What a WebAssembly module calls is seen by
+    its imports (bindings/wasm/tests)."""
     verdict = report.splitlines()[-1].split()
     called = set() if 'wasm' in built else {
         *re.findall(r'^\w+$', run('nm', '-u', '-j', TOP / 'bindings/out' / built).stdout, re.M)}
@@ -72,7 +72,7 @@ def lines_of(crate, built, report):
 
 
 def declared(path, top):
-    """How the toolchain's crate declares a function of C, with its contract."""
+    """Returns how the toolchain's crate declares a function of C, with its contract."""
     crate, *modules, name = path.split('::')
     text = read(top / 'rattle' / crate / 'src' / f'{"/".join(modules) or "lib"}.rt')
     return textwrap.dedent(re.search(rf'^ *(?:pub )?(?:(?:un)?safe )?fn {name}\b.*?;$', text, re.M | re.S)[0])

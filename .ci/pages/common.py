@@ -1,4 +1,4 @@
-"""What this folder's generators and tests share: functions that read and write files, and a copy of the repository."""
+"""Shared by this folder's generators and tests: functions that read and write files, and a copy of the repository."""
 
 import os
 import re

@@ -56,7 +56,7 @@ def imports_of(text):
 
 
 def closure(found, following):
-    """What is found, and everything that follows from it."""
+    """Returns what is found, and everything that follows from it."""
     met = set()
     while found:
         met |= found

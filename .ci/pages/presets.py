@@ -28,7 +28,7 @@ TYPES = {
 }
 # The errors from 64 on that Go's calls return.
 OTHERS_OF_GO = 'too_costly', 'no_random_bytes', 'old_processor'
-# What errors mean in Go, which passes the library no buffer that is too small.
+# Errors with another meaning in Go, which passes the library no buffer that is too small.
 WORDS_OF_GO = {'out_of_memory': 'memory could not be allocated'}
 # Patterns for a placeholder's value, some by its name, and for the blank between words.
 VALUE, BLANK = r'\d(?:[\d_,]*\d)?(?: [KMG]iB)?', r'\s+(?:(?:///|//|#|\*|--) )?'
@@ -45,7 +45,7 @@ def one_line(text):
 
 
 def presets():
-    """What each placeholder means, for each preset."""
+    """Returns what each placeholder means, for each preset."""
     text = one_line(read('crates/argon2_standard/src/config.rt'))
     found = [preset.groupdict() for preset in PRESET.finditer(text)]
     require(len(found) == text.count('pub fn') - text.count('&self)'), 'a preset of config.rt has another form')
@@ -68,8 +68,8 @@ def memory_of(kib):
 
 
 def default_limits():
-    """What each placeholder means for the default limits: <q> the most passes with all memory, <k> the most memory with
-    all passes. Capital letters mean one more."""
+    """Returns what each placeholder means for the default limits: <q> the most passes with all memory, <k> the most
+    memory with all passes. Capital letters mean one more."""
     text = read('crates/argon2/src/limits.rt').partition('fn default() -> Limits')[2]
     grouped = dict(zip('mtpw', re.findall(r': (\d[\d_]*),', text)))
     m, t, p, w = (int(value.replace('_', '')) for value in grouped.values())
@@ -81,7 +81,7 @@ def default_limits():
 
 
 def project():
-    """What each placeholder means for version and publisher."""
+    """Returns what each placeholder means for version and publisher."""
     found, version = dict(re.findall(r'^(\w+): (.+)$', read('PROJECT'), re.M)), read('VERSION').strip()
     major, minor, patch = map(int, version.split('.'))
     number = major * 1_000_000 + minor * 1000 + patch
@@ -92,7 +92,7 @@ def project():
 
 
 def options():
-    """What each placeholder means, for each C option."""
+    """Returns what each placeholder means, for each C option."""
     header = read('bindings/c/include/proved_argon2_threads.h')
     inside = re.search(r'struct proved_argon2_options \{\n(.*?)^\}', header, re.S | re.M)[1]
     return [{'name': name, 'declared': declared, **dict(zip(('rust', 'zero', 'python'), TYPES[kind.strip()]))}
@@ -100,7 +100,8 @@ def options():
 
 
 def builds(machine):
-    """What each placeholder means for all builds of a machine together, and for each build, the oldest first."""
+    """Returns what each placeholder means for all builds of a machine together, and for each build, the oldest
+    first."""
     each = [{'name': build, 'word': build.replace('-', '_'), 'WORD': build.replace('-', '_').upper(),
              'FLAGS': ', '.join(flags).upper(), 'flags': ' '.join(flags),
              **dict(zip(('open', 'close'), ('', '') if build in machine.proved else ('WITH_KERNEL(', ')')))}
@@ -111,7 +112,8 @@ def builds(machine):
 
 
 def errors():
-    """What each placeholder means for each error; <pad> aligns the comments of the header's list below one another."""
+    """Yields what each placeholder means for each error; <pad> aligns the comments of the header's list below one
+    another."""
     found = [line.split(' | ', 3) for line in lines(TOP / 'crates/argon2_c/errors.txt')]
     snake = {name: re.sub(r'(?<!^)(?=[A-Z])', '_', name) for _, name, *_ in found}
     for number, name, message, words in found:

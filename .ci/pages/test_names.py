@@ -49,7 +49,7 @@ SAID_OTHERWISE = re.compile(r'^\| [^|]* \| [^|]* \| (?!Not)(\w[^|]*) \|$', re.M)
 
 
 def text_of(file):
-    """What a file has, or nothing where there is none."""
+    """Returns what a file has, or nothing where there is none."""
     return (TOP / file).read_bytes().decode('utf-8', 'replace') if (TOP / file).is_file() else ''
 
 
@@ -76,7 +76,7 @@ def is_lost_path(name, page):
 
 
 def is_lost_name(word):
-    """Whether part of a name is no word of the sources. With `_` at an end, it may be part of one."""
+    """Returns whether part of a name is no word of the sources. With `_` at an end, it may be part of one."""
     is_there = word in SOURCES if re.search('^_|_$', word) else WORDS_OF_SOURCES.issuperset(word.split('::'))
     return not is_there and not ELSEWHERE.match(word)
 
@@ -105,7 +105,7 @@ def faults_of_links(page, text):
 
 
 def faults(page, text, is_code):
-    """What a paragraph or a line of code names that is not there, and its words that are avoided."""
+    """Yields what a paragraph or a line of code names that is not there, and its words that are avoided."""
     quoted = [' '.join(quote.split()) for quote in re.findall(r'`([^`]+)`', text)]
     paths = {*(path for _, path, _ in LINK.findall(text) if path), *filter(PATH.fullmatch, ' '.join(quoted).split()),
              *re.findall(r'\.ci/[\w./]*\w', text), *PAGE.findall(text)}

@@ -60,7 +60,7 @@ PROCEDURES = {
                                 ('build/machines.txt', '[+] x86-64-v2 ', '+ x86-64-v1 ssse3\n+ x86-64-v2 ')],
 }
 PUBLISHER, CONTACT = 'A Publisher', 'security@publisher.org'
-# What a publisher fills in by hand (docs/INSTALL.md).
+# A publisher fills in these by hand (docs/INSTALL.md).
 FILLED_IN = [('PROJECT', r'(?s)\A.+', f'Name: proved-argon2\nPublisher: {PUBLISHER}\nContact: {CONTACT}\n'
               'Address: https://publisher.org/proved-argon2\n'),
              ('debian/changelog', ' -- .*>', f' -- {PUBLISHER} <{CONTACT}>'),

@@ -26,7 +26,7 @@ TAG = '7b69c92d7c3889aad1281dbc8baefc12cc37c80f1c75e33ef2c2d40c28ebc573'  # liba
 NOTICE = 'proved and built elsewhere, from exactly these sources'
 HIDES = '[[ ! -d /opt/rattle ]] || mount -t tmpfs none /opt/rattle; ! PATH=$PATH:/opt/rattle/bin command -v rt; "$@"'
 CPUINFO = 'mount --bind "$1" /proc/cpuinfo; shift; exec "$@"'
-# What nobody sees: signs of the direction of text, fillers, variation selectors, blanks, controls.
+# Nobody sees these characters: signs of the direction of text, fillers, variation selectors, blanks, controls.
 UNSEEN = ('\u202e\xad\u034f\u115f\u17b4\u180b\u2065\u2800\u3164\ufe00\ufe0f\uffa0\x0b\x85\u2003'
           '\U0001bca0\U000e0100\U000e01ef\U000e0fff\ue000')
 OLD, NEW = 'cx16 lahf_lm popcnt pni sse4_1 sse4_2 ssse3'.split(), 'avx avx2 bmi1 bmi2 f16c fma abm movbe'.split()
@@ -145,7 +145,7 @@ def track_unseen(copy):
 COMPARE, CLEAN, INSTALL, PACKAGE, HASH = 'build/release', 'build/clean', './install', './package', './argon2'
 LIST, CHANGED = 'release/MANIFEST', 'is not the file that release/MANIFEST names'
 ARM64 = 'aarch64/libproved_argon2.a'
-# What is planted into a copy; the commands that have to find it; parts of their output.
+# Each fault that is planted into a copy, the commands that have to find it, and parts of their output.
 FORGERIES = {
     'another byte in each file': (forge(*FILES, is_listed=True), [COMPARE],
                                   [f'FAILED: release/{name} is what' for name in FILES]),
@@ -178,7 +178,7 @@ assert len(FORGERIES) == 14
 @needs_root
 @pytest.mark.parametrize('name', FORGERIES)
 def test_a_forgery_is_found(copy, tmp_path, request, name):
-    """For build/release, what is built here is copied. It is current there, since notes hold hashes, not times."""
+    """build/release uses a copy of what is built here. The copy is current, since notes hold hashes, not times."""
     (plant, commands, expected), made = FORGERIES[name], tmp_path / 'made/there'
     assert commands and expected
     if COMPARE in commands:

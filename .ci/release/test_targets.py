@@ -90,7 +90,7 @@ def made():
 
 @pytest.fixture
 def wine(tmp_path):
-    """What runs a program by wine in its own folder, without parts that fetch what is missing or write menus."""
+    """A command that runs a program by wine in its own folder, without parts that fetch missing files or write menus."""
     if not shutil.which('wine'):
         pytest.skip('there is no wine')
     how = named(WINEPREFIX=tmp_path / 'wine', WINEDEBUG='-all', WINEDLLOVERRIDES='mscoree,mshtml,winemenubuilder.exe=')
@@ -102,7 +102,7 @@ def wine(tmp_path):
 # ---- the commands of the shell
 
 def is_tool(*command):
-    """Whether it hashes, and verifies."""
+    """Returns whether it hashes, and verifies."""
     text = output_of(*command, *'new argon2id 19 1 64 2 16 par'.split(), input='password').rstrip('\n')
     answers = [run(*command, 'check', text, input=word).stdout for word in ('password', 'passwort')]
     return answers == ['true\n', 'false\n']
@@ -160,7 +160,7 @@ def test_command_on_arm_prints_the_same(on_arm, words):
 
 
 def test_addon_hashes_on_arm(on_arm, tmp_path):
-    """With a stand-in for the part of Node that a hash needs."""
+    """A stand-in takes the place of the part of Node that a hash needs."""
     compile_for_arm(TOP / 'bindings/tests/addon.c', tmp_path / 'addon', '-I', TOP / 'bindings/javascript/addon',
                     '-rdynamic')
     assert output_of(*arm(tmp_path / 'addon', on_arm / 'proved_argon2.node')).strip() == f'0 0 8 {TAG}'

@@ -1,4 +1,4 @@
-"""What the scripts of the folders beside this one share."""
+"""The functions that the scripts of the folders beside this one share."""
 
 import subprocess
 import sys
@@ -33,7 +33,7 @@ def ready(part='x86_64'):
 # ---- the machine
 
 def has_processor(build):
-    """Whether the processor runs a build of build/machines.txt for x86-64."""
+    """Returns whether the processor runs a build of build/machines.txt for x86-64."""
     return f'{build} (supported, searched)' in output_of('/lib64/ld-linux-x86-64.so.2', '--help')
 
 

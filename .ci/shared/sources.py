@@ -23,7 +23,7 @@ TYPE = re.compile(r'(?:^#\[derive\(([^)]*)\)\]\n(?:^#.*\n)*)?^pub (?:struct|enum
 RE_EXPORT = re.compile(r'^pub use ([\w:]+?)(?:::\{([^}]*)\})?;', re.M)
 # A clause or a ghost item, up to where its indentation comes back.
 PROMISE = re.compile(r'^( *)(?:requires|ensures|ghost)\b.*(?:\n\1(?: .*|\}.*))*', re.M)
-# What the checker may put before a name where it spells a trait or a type.
+# The checker may put one of these before a name where it spells a trait or a type.
 AROUND = r'(?:Array|Slice|Ref|Tuple\d+)*'
 # A crate's mutants: each one that `rt ci` also tries has its own file in a folder; the others are blocks of one file.
 TRIED_ALONE, MUTANTS = 'must-fail', 'mutants.txt'
@@ -43,8 +43,8 @@ def crates():
 
 
 def spelled(name):
-    """How the checker spells a trait or a type: `Index<(u32, u32)>` is `IndexTuple2U32U32`, `[&'a [Block]; 4]` is
-    `ArrayRefSliceBlock4`, and `From<Failed<T>>` is `FromFailed`."""
+    """Returns how the checker spells a trait or a type: `Index<(u32, u32)>` is `IndexTuple2U32U32`, `[&'a [Block]; 4]`
+    is `ArrayRefSliceBlock4`, and `From<Failed<T>>` is `FromFailed`."""
     words = re.findall(r'\w+', re.sub(r"'\w+|<\w+>(?=>)", '', name))
     return ''.join(f'{AROUND}{word[0].upper()}{word[1:]}' for word in words)
 
@@ -68,7 +68,8 @@ class Function:
         self.crate, self.folders = module.path[0], [*module.path[1:], *filter(None, [self.owner])]
 
     def is_called(self, place):
-        """Whether this is the checker's name: `crate::module::VariantOrd::cmp` is that of `impl Ord for Variant`."""
+        """Returns whether this is the checker's name: `crate::module::VariantOrd::cmp` is that of `impl Ord for
+        Variant`."""
         names = [*self.module.path, spelled(self.of) + spelled(self.what), self.name]
         return bool(re.fullmatch('::'.join(filter(None, names)), place))
 

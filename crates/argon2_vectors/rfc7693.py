@@ -54,7 +54,8 @@ def sequence(length, seed):
 
 
 def check():
-    """Whether the hash of "abc" (appendix A) and that of 48 hashes, half of them with a key (appendix E), come out."""
+    """Returns whether the hash of "abc" (appendix A) and that of 48 hashes, half of them with a key (appendix E), come
+    out."""
     hashes = b''
     for length in (20, 32, 48, 64):
         for size in (0, 3, 128, 129, 255, 1024):

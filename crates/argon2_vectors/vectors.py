@@ -74,7 +74,7 @@ def stretched_hashes():
 
 
 def shown(setting):
-    """What is shown of the first job of Argon2d in version 0x13."""
+    """Returns what is shown of the first job of Argon2d in version 0x13."""
     return (
         f"Job {{ prehash: {list(setting.h0)}, variant: Argon2d, version: Version13, lanes: {setting.lanes}, "
         f"segment_length: {setting.segment}, passes: {setting.time}, pass: 0, slice: 0 }}"
@@ -149,7 +149,7 @@ def is_text(salt):
 
 
 def outcome(variant, version, memory, time, lanes, salt, answer):
-    """What comes of a run that hashes: status, output and error stream."""
+    """Returns what comes of a run that hashes: status, output and error stream."""
     if answer.startswith("ERR "):
         return f'2 "" "{answer[4:]}\\n"'
     return f'0 "{answer}\\n{spelled(variant, version, memory, time, lanes, salt, answer)}\\n" ""'
