@@ -78,8 +78,8 @@ def inserted(words, shifted, count):
                  for kept, word in zip(words, shifted))
 
 
-# The functions that instructions compute of their operands; those of ONTO also read the register that they write. For vectors, each
-# operand's arrangement follows the name.
+# The functions that instructions compute of their operands; those of ONTO also read the register that they write. For
+# vectors, each operand's arrangement follows the name.
 VECTOR = {
     'add 2d 2d 2d': each(add), 'eor 16b 16b 16b': each(lambda x, y: x ^ y), 'shl 2d 2d': each(left),
     'mov 16b 16b': tuple,

@@ -1,5 +1,6 @@
-"""Writes what pages claim of the sources and of the toolchain: what depends on secrets (bindings/c/tests/secrets/depends.txt),
-what the prover takes without proof, and the hash of the theorems' statements that pinned.txt lists.
+"""Writes what pages claim of the sources and of the toolchain: what depends on secrets
+(bindings/c/tests/secrets/depends.txt), what the prover takes without proof, and the hash of the theorems' statements
+that pinned.txt lists.
 """
 
 import hashlib

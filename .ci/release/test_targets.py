@@ -90,7 +90,7 @@ def made():
 
 @pytest.fixture
 def wine(tmp_path):
-    """A command that runs a program by wine in its own folder, without parts that fetch missing files or write menus."""
+    """A command that runs a program by wine in its own folder, without parts that fetch files or write menus."""
     if not shutil.which('wine'):
         pytest.skip('there is no wine')
     how = named(WINEPREFIX=tmp_path / 'wine', WINEDEBUG='-all', WINEDLLOVERRIDES='mscoree,mshtml,winemenubuilder.exe=')
