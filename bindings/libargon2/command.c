@@ -66,7 +66,7 @@ static uint32_t version_of(const char *digits)
     return digits[1] == '0' ? ARGON2_VERSION_10 : ARGON2_VERSION_13;
 }
 
-/* Whether an argument is an option that takes another. */
+/* Returns whether an argument is an option that takes another. */
 static int has_argument(const char *word)
 {
     return word[0] == '-' && word[1] != 0 && word[2] == 0 && strchr("mktplv", word[1]) != NULL;

@@ -209,7 +209,7 @@ CLEARS_REGISTERS int argon2_hash(INPUTS, void *hash, const size_t hashlen, char 
     return code;
 }
 
-/* Whether an encoded hash begins as libargon2 writes these settings: the library below accepts more forms. */
+/* Returns whether an encoded hash begins as libargon2 writes these settings: the library below accepts more forms. */
 static int is_spelled(const char *text, const proved_argon2_settings *its, argon2_type type)
 {
     char version[16] = "", begin[80];

@@ -129,7 +129,7 @@ def deepest_stack(module):
 # ---- the C
 
 def made_c(module):
-    """What wasm2c makes of a module: only its structure and its functions."""
+    """Returns what wasm2c makes of a module: only its structure and its functions."""
     with tempfile.TemporaryDirectory() as folder:
         with open(f"{folder}/m.wat", "w", encoding="utf-8") as file:
             file.write(without_memory(module))

@@ -85,7 +85,7 @@ static int is_mode(const char *word, uint32_t *threads)
         || (strncmp(word, "max", 3) == 0 && is_number(word + 3, threads));
 }
 
-/* What this kind of word should be, or NULL if it is right. */
+/* Returns what this kind of word should be, or NULL if it is right. */
 static const char *fault_of(char kind, const char *word, uint32_t *number)
 {
     switch (kind) {
@@ -99,8 +99,8 @@ static const char *fault_of(char kind, const char *word, uint32_t *number)
     }
 }
 
-/* How many bytes a character has in UTF-8 (RFC 3629, section 4), or 0 if none begins here. The first byte decides
- * the length, and bounds the second byte. */
+/* Returns how many bytes a character has in UTF-8 (RFC 3629, section 4), or 0 if none begins here. The first byte
+ * decides the length, and bounds the second byte. */
 static size_t utf8_length(const unsigned char *text)
 {
     static const struct {
@@ -184,7 +184,8 @@ static int read_password(void)
     return command->is_limited ? refuse(PROVED_ARGON2_PWD_TOO_LONG) : TRUE;
 }
 
-/* Whether all output was written. A write may succeed after an earlier one has failed, so the last one is not enough. */
+/* Returns whether all output was written. A write may succeed after an earlier one has failed, so the last one is not
+ * enough. */
 static int is_written(void)
 {
     return fflush(stdout) == 0 && !ferror(stdout);
@@ -224,7 +225,7 @@ static int hash(char *word, const proved_argon2_limits *most)
     return is_written() ? TRUE : STREAM;
 }
 
-/* Whether the password is that of an encoded hash. */
+/* Returns whether the password is that of an encoded hash. */
 static int verify(const char *text)
 {
     const uint32_t code = proved_argon2_verify_encoded_with(

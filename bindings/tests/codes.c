@@ -48,7 +48,7 @@ void set_answers(uint32_t check, uint32_t then, uint32_t read, uint32_t memory, 
     memory_len = progress_result = -1;
 }
 
-/* What was seen since the answers were set. */
+/* Returns what was seen since the answers were set. */
 const char *seen(void)
 {
     static char text[sizeof passed + 200];

@@ -61,7 +61,7 @@ def set_answers(check=0, then=0, read=0, memory=0, kib=1024):
 
 
 def seen():
-    """What the library received since the answers were set."""
+    """Returns what the library received since the answers were set."""
     *numbers, judging, telling, computing = STUB.seen().decode(errors="replace").split("|", 8)
     return Seen(*map(int, numbers), judging, telling, computing)
 

@@ -19,7 +19,7 @@ static int pieces_of(const uint8_t *tag, size_t tag_len)
     return found;
 }
 
-/* How many pieces of a tag are left behind a call that verifies it. */
+/* Returns how many pieces of a tag are left behind a call that verifies it. */
 int pieces_left(
     verify_encoded *call, const char *text, const void *pwd, size_t pwd_len, const uint8_t *tag, size_t tag_len)
 {
@@ -28,7 +28,7 @@ int pieces_left(
     return pieces_of(tag, tag_len);
 }
 
-/* How many are found where a register was filled with a tag of 16 bytes. */
+/* Returns how many are found where a register was filled with a tag of 16 bytes. */
 int pieces_filled(const uint8_t tag[16])
 {
     struct {

@@ -81,7 +81,7 @@ def refuses(status, text, *words, **named):
 
 
 def fetch(call, *words):
-    """Whether a call of fetching.bash finds what it wants."""
+    """Returns whether a call of fetching.bash finds what it wants."""
     script = 'source bindings/tests/fetching.bash && "$@"'
     return start("bash", "-c", script, "bash", call, "sid", *words).returncode == 0
 
@@ -100,13 +100,13 @@ def linked_without_kernels(folder):
 
 
 def is_without_kernels(program):
-    """Whether a program contains each build of the library whose compression is proved, and no other one."""
+    """Returns whether a program contains each build of the library whose compression is proved, and no other one."""
     names = run("nm", program)
     return [build for build in BUILDS if f" proved_{build.replace('-', '_')}_" in names] == PROVED
 
 
 def ahead(request, name, work, at_once=None):
-    """For fixtures: starts work for each value that a parameter has in the module's chosen tests. Returns a function
+    """Starts work for each value that a parameter has in the module's chosen tests. Returns a function
     that waits for a value's result, and starts work for other values."""
     specs = [item.callspec for item in request.session.items
              if item.module is request.module and hasattr(item, "callspec")]

@@ -84,7 +84,7 @@ def test_the_row_of_python_works_where_python_takes_no_packages_outside_of_an_en
 
 
 def test_the_lines_for_the_shell_run(installed):
-    """With a clock by which each measurement of `tune` takes 150 milliseconds."""
+    """By the clock that we plant, each measurement of `tune` takes 150 milliseconds."""
     with clock(*[150] * 50) as environment:
         path = f"{installed}/bin:{environment['PATH']}"
         said = run("sh", "-c", first_lines("SHELL.md"), env={**environment, "PATH": path, "password": "secret"})
@@ -152,7 +152,7 @@ def joined(code):
 
 
 def declared():
-    """What the header declares that a program uses, without directives and attributes."""
+    """Returns what the header declares that a program uses, without directives and attributes."""
     code = re.sub(r"^\s*#.*\n", "", re.sub(r"\\\n", "", "".join(HEADERS)), flags=re.M)
     return re.sub(r"PROVED_ARGON2_CHECKED\b", "", code).replace('extern "C" {', "")
 

@@ -223,7 +223,7 @@ def ask(env, tmp_path_factory):
 
 
 def outcome(codes, number):
-    """What codes.go prints of a call for which the library returned this number."""
+    """Returns what codes.go prints of a call for which the library returned this number."""
     if codes.values.get(number) in VALUES:
         return VALUES[codes.values[number]]
     error = HEADER["DECODING_FAIL"] if number == HEADER["NOT_ASCII"] else number

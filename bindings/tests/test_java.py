@@ -231,7 +231,7 @@ def test_an_encoder_for_spring_is_one_line(jar, tmp_path):
 
 
 def test_the_service(jar, tmp_path):
-    """With more simultaneous logins than places, and clients of whom some leave."""
+    """More clients log in at once than there are places, and some of them leave."""
     run("javac", *LINT, "-cp", jar, "-d", tmp_path, TOP / "docs/examples/LogIn.java", TESTS / "service/Service.java")
     done = start("java", "-Xmx64m", "-cp", f"{jar}:{tmp_path}", "Service", env={"PEPPER": "pepper"}, timeout=300)
     assert done.returncode == 0, done.stderr[-9000:]

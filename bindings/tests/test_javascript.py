@@ -115,15 +115,14 @@ export const verdict: Promise<boolean> = inline.verify('', 'password');
                                    "--module es2022 --moduleResolution node types.mts",
                                    "--lib es2022 --module nodenext --moduleResolution nodenext bare.cts"])
 def test_typescript_accepts_right_calls_and_rejects_wrong_ones(site, words):
-    """With both rules by which compilers find a package's types, also for CommonJS, and without a page's types or
-    Node's."""
+    """We try both rules by which compilers find a package's types, CommonJS, and no types of a page or of Node."""
     (site / "bare.cts").write_text(BARE)
     run("tsc", "--noEmit", "--strict", "--target", "es2022", *words.split(), cwd=site)
 
 
 @needs("eslint")
 def test_eslint_finds_nothing():
-    """In the code for engines and its tests."""
+    """eslint reads the code for engines and its tests."""
     words = "--no-eslintrc", "--config", "bindings/javascript/eslint.json", "--format", "unix", "--ext", ".js,.mjs"
     run("eslint", *words, "bindings/javascript", "bindings/wasm", "bench", "docs/demo", "docs/examples", env={
         "NODE_PATH": "/usr/share/nodejs", "NODE_OPTIONS": f"--require={SOURCES}/tests/debian.cjs"})
@@ -135,7 +134,7 @@ def test_the_first_lines_of_the_page_run(site):
 
 
 def test_the_service(site):
-    """With more simultaneous logins than places."""
+    """More clients log in at once than there are places."""
     shutil.copy(TOP / "docs/examples/log_in.mjs", site)
     done = start("node", "service.mjs", cwd=site)
     assert done.returncode == 0, done.stderr[-9000:]

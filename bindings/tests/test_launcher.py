@@ -120,7 +120,7 @@ def test_a_tracked_program_is_not_run(tree):
 
 
 def test_cdpath_leads_to_no_build(tree):
-    """With it, `cd` prints the folder that it finds there."""
+    """If CDPATH is set, `cd` prints the folder that it finds there."""
     own = {**tree.environment, "CDPATH": tree.folder.parent}
     assert run(f"{tree.folder.name}/argon2", "hash", env=own, cwd=tree.folder.parent) == "the program: hash\n"
     assert not tree.runs.exists()
@@ -165,8 +165,8 @@ def test_the_released_program_runs_even_if_another_one_is_noted_as_built(clone):
         other = clone / "bindings/out" / build / "argon2_tool"
         other.parent.mkdir(parents=True)
         write_program(other, "#!/bin/sh\necho another program\n")
-        run("sh", "-euc", 'root=$0; . build/current.sh; line_of argon2_tool; note_built argon2_tool "$line" "$1"', clone,
-            other)
+        noted = 'root=$0; . build/current.sh; line_of argon2_tool; note_built argon2_tool "$line" "$1"'
+        run("sh", "-euc", noted, clone, other)
     assert "another program" not in run(clone / "argon2", *CHEAP)
     shutil.rmtree(clone / "bindings/out")
 

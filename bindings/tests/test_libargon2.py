@@ -129,7 +129,7 @@ def test_own_tests_of_libargon2(work, tmp_path):
 
 
 def test_own_tests_of_argon2_cffi(work, tmp_path):
-    """From Debian's newest source, over Debian's bindings, which are built with the system's library. (The tests of its
+    """The tests are those of Debian's newest source, over Debian's bindings, which are built with the system's library. (The tests of its
     packaging are left out, since they need installed files. The bindings get a file name that an older Python
     finds.)"""
     pytest.importorskip("hypothesis")
@@ -158,7 +158,8 @@ def test_programs_of_debian(work):
 # ---- planted faults
 
 def is_right(work, folder):
-    """Whether a library answers correctly, judged by some thousand calls and by processes that are denied something."""
+    """Returns whether a library answers correctly, judged by some thousand calls and by processes that are denied
+    something."""
     commands = [(*FUZZ, 1, 5000, THEIRS, folder / "libargon2.so.1"),
                 *(over(folder, work / "starved", kind, 3) for kind in KINDS), over(folder, work / "secrets")]
     return all(start(*command, errors="replace").returncode == 0 for command in commands) \

@@ -71,7 +71,7 @@ def test_loads_the_shared_object_of_the_wheel(tmp_path):
 
 
 def test_loads_the_addon(tmp_path):
-    """With those parts of Node that hashing needs."""
+    """A stand-in has those parts of Node that hashing needs."""
     program = loaded_by_musl(tmp_path / 'addon', '-I', BINDINGS / 'javascript/addon', '-rdynamic', TESTS / 'addon.c')
     assert run(program, MADE / 'proved_argon2.node').startswith(f'0 0 8 {TAG}')
 

@@ -56,7 +56,7 @@ def read(file):
 
 
 def copy_tree(folder):
-    """What users get of the repository, without built files."""
+    """Returns what users get of the repository, without built files."""
     return shutil.copytree(TOP, folder, symlinks=True, ignore=shutil.ignore_patterns('out', 'target', '.git'))
 
 
@@ -70,7 +70,7 @@ def packages(tmp_path_factory):
 
 @pytest.fixture(scope='session')
 def unpacked(packages, tmp_path_factory):
-    """By each package's name, a folder with its contents."""
+    """A folder with the contents of each package, by the package's name."""
     folder = tmp_path_factory.mktemp('unpacked')
     for name in NAMES:
         (folder / name).mkdir()
@@ -88,8 +88,8 @@ def there():
 
 
 def test_packages_made_elsewhere_by_another_user_have_the_same_bytes(packages, there):
-    """In another folder, by another user with another umask, clock, zone and language, and one processor. Modules that
-    lie beside the scripts are not run."""
+    """There are another folder, user, umask, clock, zone and language, and one processor. Modules that lie beside the
+    scripts are not run."""
     tree, home = copy_tree(there / 'tree'), there / 'home'
     for folder in 'bindings/java', 'bindings/javascript/inline', 'bindings/python', '.':
         for name in 'base64', 'hatchling', 'tempfile', 'zipfile':
@@ -182,7 +182,7 @@ def test_a_package_for_debian_depends_only_on_what_it_needs(packages, unpacked, 
 
 
 def lines_of(text):
-    """Without comments and empty lines."""
+    """Returns a text's lines without comments and empty lines."""
     return [line.strip() for line in text.splitlines() if line.strip() and not line.startswith('#')]
 
 

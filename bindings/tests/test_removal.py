@@ -77,7 +77,7 @@ def test_the_loader_is_told_of_usr_local(folder):
 
 @pytest.mark.parametrize("mask", ["000", "022", "077"])
 def test_what_is_installed_has_its_modes_under_each_umask(folder, mask):
-    """With a careless umask, the usual one, and that of a careful root."""
+    """The masks are a careless one, the usual one, and that of a careful root."""
     prefix = folder / f"mask/{mask}"
     run("sh", "-c", 'umask "$0" && exec ./install "$1"', mask, prefix)
     for path in [prefix, *prefix.rglob("*")]:
@@ -189,7 +189,7 @@ def test_a_removal_that_fails_can_be_repeated(prefix, folder, command):
 @pytest.mark.skipif(os.geteuid() == 0 and start(*NOBODY, "test", "-r", "install").returncode != 0,
                     reason="only root can read the repository")
 def test_a_user_without_rights_is_refused(folder):
-    """As root, another user installs; otherwise the folder is not writable."""
+    """If root runs the test, another user installs; otherwise the folder is not writable."""
     folder.chmod(0o555)
     refuses(1, "no right to write", *(NOBODY if os.geteuid() == 0 else []), "./install", folder / "prefix")
     assert [*folder.iterdir()] == []

@@ -141,7 +141,7 @@ HOW = {"alone": -1, "over": -1, "run": -1, "tells": 0, "stops": 1, "panics": 1}
 
 
 def outcome(codes, number):
-    """What a call returns if the library returns this number."""
+    """Returns what a call returns if the library returns this number."""
     value, error = codes.values.get(number), ERRORS.get(number)
     if value:
         return SHOWN[value]
@@ -150,9 +150,9 @@ def outcome(codes, number):
 
 
 def expected(codes, how, place, number):
-    """What codes.rs prints of a call in a new buffer, or in none: its value; the size of the buffer; how many threads,
-    how large a buffer and which answer of the callback the library saw; how many buffers were allocated; and what the
-    library was passed."""
+    """Returns what codes.rs prints of a call in a new buffer, or in none: its value; the size of the buffer; how many
+    threads, how large a buffer and which answer of the callback the library saw; how many buffers were allocated; and
+    what the library was passed."""
     computes = place == "then" and bool(codes.computing)
     is_over = computes and how in ("over", "stops", "panics")
     size = 65536 if is_over and number == HEADER["OUT_OF_MEMORY"] else 0
@@ -197,7 +197,7 @@ def test_other_calls_pass_their_arguments_in_order(ask):
 
 @pytest.mark.parametrize("how", ["alone", "over"])
 def test_a_login_of_an_unknown_user_computes_one_hash_with_the_settings_and_never_matches(ask, how):
-    """With as many threads as lanes, as a verification has, although the settings name three."""
+    """The hash uses as many threads as lanes, as a verification does, although the settings name three."""
     numbers = [0, HEADER["MISMATCH"], HEADER["OUT_OF_MEMORY"], HEADER["OLD_PROCESSOR"]]
     said = ask(("verify_unknown", how, {"then": number}) for number in numbers)
     found = [(line.split("|")[0], line.split("|")[2], line.split("|")[-1]) for line in said]
@@ -369,7 +369,7 @@ def test_a_copy_of_the_crate_passes_its_own_tests(cargo, program):
 
 
 def test_settings_are_checked_before_memory_is_allocated(cargo, program):
-    """With 1 GB of memory and a hash of 4 GiB."""
+    """The program has 1 GB of memory, and the hash needs 4 GiB."""
     run(*RUN, cwd=program, env=cargo)
     made = cargo["CARGO_TARGET_DIR"] / "debug/program"
     run(made, "long", preexec_fn=lambda: resource.setrlimit(resource.RLIMIT_AS, (1 << 30, 1 << 30)))
@@ -470,7 +470,7 @@ def test_the_build_script_uses_release_only_if_it_is_of_these_sources(tmp_path, 
 
 @needs("aarch64-linux-gnu-gcc")
 def test_the_build_script_compiles_the_library_as_c_for_a_target_without_an_archive(tmp_path, other):
-    """With the compiler that CC names, into a new archive: an old one has objects of sources that are gone."""
+    """It uses the compiler that CC names, and makes a new archive: an old one has objects of sources that are gone."""
     repository, made = Repository(tmp_path / "current", True), tmp_path / "made"
     made.mkdir()
     run("aarch64-linux-gnu-ar", "rcs", made / "libproved_argon2.a", tmp_path / "current/build/check_release")
@@ -487,7 +487,7 @@ def test_the_build_script_compiles_the_library_as_c_for_a_target_without_an_arch
 
 
 def test_the_build_script_uses_an_installation_only_for_this_machine(built, other, tmp_path):
-    """For the same processor and system, also where the target's first word is not cargo's name of the processor."""
+    """An installation serves the same processor and system, even if the target's first word is not cargo's name of it."""
     shutil.rmtree(other.folder / "release")
     (tmp_path / "proved_argon2.pc").write_text(f"libdir={built / MACHINE}\nName: x\nDescription: x\nVersion: 1\n")
     for target in ("aarch64-unknown-linux-gnu aarch64 linux gnu 64", WINDOWS):

@@ -345,7 +345,7 @@ def test_tune_ends_where_check_takes_no_hash(run_script):
 
 
 def test_the_least_passes_are_those_that_owasp_advises(run_script):
-    """For each OWASP preset of the library: the least memory and least work are the bounds."""
+    """The least memory and the least work of the library's OWASP presets are the bounds."""
     presets = [numbers(f"owasp{number}") for number in range(1, 6)]
     for found in presets:
         done = run_script("cat >/dev/null", "main", "tune", "1", str(found.mem_cost), date=STILL)

@@ -17,7 +17,7 @@ enum { THREADS = 8 };
 
 static const char variable[] = "PROVED_ARGON2_CPU";
 
-/* Whether hashing returns the known tag, or an error without a build. */
+/* Returns whether hashing returns the known tag, or an error without a build. */
 static bool hashes(int build)
 {
     const proved_argon2_settings settings = {PROVED_ARGON2_D, PROVED_ARGON2_VERSION_13, 256, 2, 2, 32};
@@ -48,7 +48,7 @@ static void name_build(const char *name)
     }
 }
 
-/* Whether a process chooses a build if the environment has this name, and keeps it when the name changes. */
+/* Returns whether a process chooses a build if the environment has this name, and keeps it when the name changes. */
 static bool is_taken(const char *name, int build)
 {
     name_build(name);
@@ -62,7 +62,7 @@ static void *hash_in_thread(void *build)
     return hashes(*(int *)build) ? build : NULL;
 }
 
-/* Whether threads that choose at the same time take one build. */
+/* Returns whether threads that choose at the same time take one build. */
 static bool is_taken_by_threads(const char *name, int build)
 {
     pthread_t threads[THREADS];

@@ -61,7 +61,7 @@ static inline void fill_bytes(uint8_t *bytes, size_t len, uint8_t seed)
     }
 }
 
-/* Whether bytes are those of a text of hexadecimal digits. */
+/* Returns whether bytes are those of a text of hexadecimal digits. */
 static inline bool is_hex(const uint8_t *bytes, size_t len, const char *expected)
 {
     char digits[3];

@@ -128,7 +128,7 @@ static struct trial over(size_t memory, uint32_t threads)
     return trial;
 }
 
-/* How many of these memories a call can use: without options it can use only its own. */
+/* Returns how many of these memories a call can use: without options it can use only its own. */
 static size_t memories_of(size_t name)
 {
     return name < WITH ? MEMORIES : name < PLAIN ? 2 : 1;
@@ -340,7 +340,7 @@ static void calls_late(void)
     (void)!getpgrp();
 }
 
-/* Whether the loader saves registers when it binds a name late: otherwise nothing here is tested. */
+/* Returns whether the loader saves registers when it binds a name late: otherwise nothing here is tested. */
 static int is_bound_late(const void *unused)
 {
     static uint8_t piece[PART];
@@ -357,8 +357,8 @@ static int is_bound_late(const void *unused)
     return found[OF_H0] + found[OF_SEED] + found[OF_FIRST] != 0 ? 0 : 1;
 }
 
-/* Whether a call leaves nothing, although a name is bound late after it: in a process of its own, since a name is bound
- * once. */
+/* Returns whether a call leaves nothing, although a name is bound late after it: in a process of its own, since a name
+ * is bound once. */
 static int ends_before_a_late_call(const void *arg)
 {
     const struct asked *const asked = arg;
@@ -395,7 +395,7 @@ static void check_late(size_t name)
 
 /* ---- out of core dumps */
 
-/* Whether the system marks what remains of the last mapping as left out of core dumps. */
+/* Returns whether the system marks what remains of the last mapping as left out of core dumps. */
 static bool is_left_out_of_dumps(void)
 {
     FILE *const maps = fopen("/proc/self/smaps", "r");

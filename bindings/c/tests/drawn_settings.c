@@ -65,15 +65,15 @@ static struct call drawn_call(uint32_t draw)
 
 /* ---- what is to be counted */
 
-/* How many blocks a segment has. */
+/* Returns how many blocks a segment has. */
 static size_t length_of(const proved_argon2_settings *of)
 {
     return of->mem_cost / (4 * of->lanes);
 }
 
-/* How many blocks are compressed: the matrix in each pass, without each lane's first two in the first pass. A segment
- * whose references depend on no block (RFC 9106, 3.4.1.2) adds two per 128 pseudorandom numbers, unless it has only
- * those first two. */
+/* Returns how many blocks are compressed: the matrix in each pass, without each lane's first two in the first pass. A
+ * segment whose references depend on no block (RFC 9106, 3.4.1.2) adds two per 128 pseudorandom numbers, unless it has
+ * only those first two. */
 static size_t blocks_of(const proved_argon2_settings *of)
 {
     const size_t all = 4 * of->lanes * length_of(of),
@@ -87,7 +87,7 @@ static size_t blocks_of(const proved_argon2_settings *of)
 /* How a call is made: each of the four with threads; the first without options; and twice in a buffer of memory_new. */
 enum way { RAW, ENCODED, VERIFY, VERIFY_ENCODED, PLAIN, REUSED };
 
-/* How many threads it uses, up to `most`: only the caller's if more are slower. */
+/* Returns how many threads it uses, up to `most`: only the caller's if more are slower. */
 static size_t threads_of(const proved_argon2_settings *of, uint32_t most)
 {
     const size_t bytes = 4 * length_of(of) * of->lanes * BLOCK;
@@ -143,7 +143,7 @@ static uint32_t answer(const struct call *call, enum way way, uint32_t threads)
     }
 }
 
-/* Whether a call returns and uses exactly what it should. */
+/* Returns whether a call returns and uses exactly what it should. */
 static bool is_as_counted(const struct call *call, enum way way, uint32_t threads)
 {
     const counted to_be = counts_of(call, way, threads);
@@ -176,7 +176,7 @@ static void look_at_room(const void *block)
     }
 }
 
-/* Whether nothing of a tag was left, and verifying compares the last byte too. */
+/* Returns whether nothing of a tag was left, and verifying compares the last byte too. */
 static bool is_judged_whole(const struct call *call, uint32_t threads)
 {
     const proved_argon2_options with = by(threads);

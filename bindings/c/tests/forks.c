@@ -81,7 +81,7 @@ static bool ends_well(pid_t child)
     return child > 0 && waitpid(child, &status, 0) == child && WIFEXITED(status) && WEXITSTATUS(status) == 0;
 }
 
-/* Whether a child hashes twice in the buffer, frees it, and hashes once more. */
+/* Returns whether a child hashes twice in the buffer, frees it, and hashes once more. */
 static bool child_is_right(const proved_argon2_options *with)
 {
     static const proved_argon2_options without = PROVED_ARGON2_OPTIONS;
@@ -104,8 +104,8 @@ static int fork_in_the_middle(void *child, uint64_t done, uint64_t all)
     return 0;
 }
 
-/* Whether the callback's child goes on alone despite having the parent's process ID, and the parent goes on with two
- * threads. Parts are long, so neither thread takes the other's. */
+/* Returns whether the callback's child goes on alone despite having the parent's process ID, and the parent goes on
+ * with two threads. Parts are long, so neither thread takes the other's. */
 static bool both_go_on(void)
 {
     pid_t child = -1;

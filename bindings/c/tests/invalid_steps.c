@@ -6,7 +6,7 @@
  */
 #include "arguments.h"
 
-/* Whether a step returns this number, and writes nothing, or its own blocks if it succeeds. */
+/* Returns whether a step returns this number, and writes nothing, or its own blocks if it succeeds. */
 static bool answers(uint32_t (*step)(void), uint32_t expected, size_t from, size_t len)
 {
     const uint32_t code = step();

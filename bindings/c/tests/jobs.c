@@ -15,7 +15,7 @@ static const char stored[] = "$argon2i$v=19$m=256,t=2,p=2$c29tZXNhbHQ$T/XOJ2mh1/
 enum { MOST = 256 };
 static proved_argon2_block blocks[MOST];
 
-/* What a step returns for a lane; step 0 begins it, and step n + 1 fills its segment of slice number n. */
+/* Returns what a step returns for a lane; step 0 begins it, and step n + 1 fills its segment of slice number n. */
 static uint32_t take_step(const proved_argon2_job *job, uint32_t n, uint32_t lane)
 {
     const size_t length = job->segment_length, whole = job->lanes * length;

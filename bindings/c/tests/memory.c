@@ -51,7 +51,8 @@ static const struct row {
     ROW(hash_encoded_with, 1, true), ROW(verify_raw_with, 1, true), ROW(verify_encoded_with, 1, true),
     ROW(job_run, 0, true), ROW(job_run_verify, 1, true)};
 
-/* How many bytes the driver allocates for so many blocks. A long rest behind the last huge page gets a huge page. */
+/* Returns how many bytes the driver allocates for so many blocks. A long rest behind the last huge page gets a huge
+ * page. */
 static size_t whole_of(uint32_t mem_cost)
 {
     const size_t bytes = (size_t)mem_cost * 1024, rest = bytes % HUGE_PAGE;
@@ -69,7 +70,7 @@ static void make(uint32_t mem_cost)
     check(good, "the inputs are valid");
 }
 
-/* Whether a call succeeds: it wrote the tag or the encoded hash. */
+/* Returns whether a call succeeds: it wrote the tag or the encoded hash. */
 static bool is_value(uint32_t code)
 {
     const bool is_untouched = memcmp(buffer, before, sizeof buffer) == 0;
@@ -113,8 +114,8 @@ static void check_call(const struct row *row, uint32_t threads)
     check(good && requests == expected && most_held >= blocks && most_held <= most, name);
 }
 
-/* Whether a hash requests huge pages for all its whole ones. It lets the system allocate each page once it is touched:
- * while the system populates a range, calls of other threads cannot map memory. */
+/* Returns whether a hash requests huge pages for all its whole ones. It lets the system allocate each page once it is
+ * touched: while the system populates a range, calls of other threads cannot map memory. */
 static bool maps_well(uint32_t mem_cost, uint32_t threads)
 {
     const size_t whole = whole_of(mem_cost), most = whole + HUGE_PAGE + 2048;
@@ -176,7 +177,7 @@ static int measures(void *arg, uint64_t done, uint64_t all)
     return done > all;
 }
 
-/* Whether a hash takes no more memory than its memory cost in whole pages, plus a little for each thread. */
+/* Returns whether a hash takes no more memory than its memory cost in whole pages, plus a little for each thread. */
 static bool takes_no_more(uint32_t mem_cost, uint32_t threads)
 {
     enum { BESIDE = 64 * 1024, OF_A_THREAD = 48 * 1024 };

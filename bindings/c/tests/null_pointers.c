@@ -147,7 +147,7 @@ static const struct row {
 
 /* ---- null pointers */
 
-/* Whether a call succeeds if all fits, and fails for another reason if all but the pointers is spoilt. */
+/* Returns whether a call succeeds if all fits, and fails for another reason if all but the pointers is spoilt. */
 static bool tells_what_fits(const struct row *row)
 {
     give_what_fits();
@@ -174,7 +174,7 @@ static bool refuses_null(const struct row *row, enum place place, bool is_spoilt
     return is_refused && memcmp(&written, &written_before, sizeof written) == 0;
 }
 
-/* Whether a null pointer with length 0 acts like an address with length 0. */
+/* Returns whether a null pointer with length 0 acts like an address with length 0. */
 static bool takes_none(const struct row *row, enum place place)
 {
     struct written by_address;
@@ -225,7 +225,7 @@ static void check_order(void)
 }
 
 #ifdef __x86_64__ /* (where there are builds to choose from) */
-/* Whether a call returns PROVED_ARGON2_OLD_PROCESSOR or, if it returns a length, 0. */
+/* Returns whether a call returns PROVED_ARGON2_OLD_PROCESSOR or, if it returns a length, 0. */
 static bool refuses_the_processor(const struct row *row)
 {
     const bool gives_a_length = row->call == encoded_len || row->call == memory_len;

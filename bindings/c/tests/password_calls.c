@@ -80,7 +80,7 @@ static uint32_t verdict_of(const char *text, size_t length, size_t pepper_len)
                            : proved_argon2_password_verify_with(&with, text, password, length, pepper, pepper_len);
 }
 
-/* Whether hash_encoded makes a call's encoded hash from these bytes. */
+/* Returns whether hash_encoded makes a call's encoded hash from these bytes. */
 static bool is_text_of(const char *text, const proved_argon2_settings *settings, size_t length, size_t pepper_len)
 {
     char other[PROVED_ARGON2_TEXT_SIZE];
@@ -92,7 +92,7 @@ static bool is_text_of(const char *text, const proved_argon2_settings *settings,
         && strcmp(text, other) == 0;
 }
 
-/* Whether an encoded hash verifies, but not if a byte of password or pepper is changed, added or left out. */
+/* Returns whether an encoded hash verifies, but not if a byte of password or pepper is changed, added or left out. */
 static bool is_whole(const char *text, size_t length, size_t pepper_len)
 {
     bool good = verdict_of(text, length, pepper_len) == PROVED_ARGON2_OK

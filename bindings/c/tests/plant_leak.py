@@ -100,7 +100,7 @@ def compiled(made, *words, prefix=''):
 
 
 def front(path, section, prefix, least):
-    """How many bytes the first instructions have that make room for a jump."""
+    """Returns how many bytes the first instructions have that make room for a jump."""
     said = run(f'{prefix}objdump', '-d', '--no-show-raw-insn', '-j', section, path)
     found = re.findall(r'^ +([0-9a-f]+):\t(.*)$', said, re.M)
     for (_, text), (end, _) in zip(found, found[1:]):

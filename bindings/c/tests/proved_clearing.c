@@ -144,14 +144,14 @@ static int kinds_found(void)
     return bits;
 }
 
-/* Whether blocks that a call returns have the first bytes of its password or secret. */
+/* Returns whether blocks that a call returns have the first bytes of its password or secret. */
 static bool have_inputs(void)
 {
     return memmem(blocks, sizeof blocks, MANY_CALL.pwd, 8) != NULL
         || memmem(blocks, sizeof blocks, MANY_CALL.secret, 8) != NULL;
 }
 
-/* Whether one of the registers in `general` (search.h) has half of a piece. */
+/* Returns whether one of the registers in `general` (search.h) has half of a piece. */
 static bool is_in_general_registers(void)
 {
     const size_t halves = 2 * sought->count;

@@ -51,7 +51,8 @@ static bool begin_service(struct service *service)
     return proved_argon2_buffers_new(&service->new_settings, 8, &service->options.buffers) == PROVED_ARGON2_OK;
 }
 
-/* What a login returns. `stored` is NULL for unknown users: the call takes as long as usual, and never matches. */
+/* Returns what a login returns. `stored` is NULL for unknown users: the call takes as long as usual, and never matches.
+ * */
 static uint32_t log_in(const struct service *service, const char *stored, const char *password, size_t length)
 {
     return stored == NULL
@@ -59,7 +60,7 @@ static uint32_t log_in(const struct service *service, const char *stored, const 
         : proved_argon2_password_verify_with(&service->options, stored, password, length, NULL, 0);
 }
 
-/* Whether the tag of a cleared password is right. */
+/* Returns whether the tag of a cleared password is right. */
 static bool clears_the_password(uint8_t *pwd, size_t pwd_len, const uint8_t *salt)
 {
     const proved_argon2_settings settings = proved_argon2_owasp2();

@@ -67,7 +67,7 @@ static proved_argon2_settings settings_of_rfc(uint32_t variant)
     return settings;
 }
 
-/* Whether a buffer contains a string and only zeros after it. */
+/* Returns whether a buffer contains a string and only zeros after it. */
 static bool holds_text(const char *buffer, size_t len, const char *text)
 {
     static const uint8_t zeros[SEVENS];
@@ -75,7 +75,7 @@ static bool holds_text(const char *buffer, size_t len, const char *text)
     return end < len && memcmp(buffer, text, end) == 0 && memcmp(buffer + end, zeros, len - end) == 0;
 }
 
-/* Whether a buffer is as it was filled first. */
+/* Returns whether a buffer is as it was filled first. */
 static bool is_untouched(const void *buffer, size_t len)
 {
     uint8_t sevens[SEVENS];
@@ -380,7 +380,7 @@ static const char *text_of_length(size_t length)
     return made;
 }
 
-/* What the calls with limits return if they agree, or else 0. */
+/* Returns what the calls with limits return if they agree, or else 0. */
 static uint32_t answer_within(const char *text, const proved_argon2_limits *limits)
 {
     proved_argon2_options with = PROVED_ARGON2_OPTIONS;
@@ -469,8 +469,8 @@ static void check_buffers(void)
 
 enum { MOST_SIZE = 200 };
 
-/* What verifying a string returns with options of some size. All bytes behind them are 255, so that a call which
- * follows a pointer there crashes. */
+/* Returns what verifying a string returns with options of some size. All bytes behind them are 255, so that a call
+ * which follows a pointer there crashes. */
 static uint32_t verify_with_size(const char *text, size_t size, uint8_t last)
 {
     union {

@@ -10,7 +10,7 @@ enum { TAG = 24 };
 static const proved_argon2_settings of_malloc = {PROVED_ARGON2_ID, PROVED_ARGON2_VERSION_13, 64, 2, 3, TAG};
 static const proved_argon2_settings of_mapping = {PROVED_ARGON2_D, PROVED_ARGON2_VERSION_10, 3000, 1, 2, TAG};
 
-/* Whether the mapping at an address has `flag` among its VmFlags. */
+/* Returns whether the mapping at an address has `flag` among its VmFlags. */
 static bool has_flag(const void *address, const char *flag)
 {
     FILE *const maps = fopen("/proc/self/smaps", "r");

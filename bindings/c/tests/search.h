@@ -188,7 +188,7 @@ static inline void seek(size_t which)
     }
 }
 
-/* Whether a piece begins here, byte by byte, so that it is copied nowhere. */
+/* Returns whether a piece begins here, byte by byte, so that it is copied nowhere. */
 static inline bool is_part(const uint8_t *at, const uint8_t *masked)
 {
     size_t i = 0;
@@ -266,7 +266,7 @@ __attribute__((noinline)) static uint32_t far_below(uint32_t (*does)(const void 
     return code + space[0];
 }
 
-/* Whether nothing is found. Prints the first few findings. */
+/* Returns whether nothing is found. Prints the first few findings. */
 static inline bool is_nothing_found(const char *after)
 {
     static int reported;

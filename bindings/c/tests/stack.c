@@ -93,7 +93,7 @@ static void *small_calls(void *unused)
     return unused;
 }
 
-/* How many bytes of a painted stack a call used, including its thread's own. */
+/* Returns how many bytes of a painted stack a call used, including its thread's own. */
 static size_t depth_of(void *(*call)(void *))
 {
     pthread_t thread;

@@ -26,7 +26,7 @@ static bool make(uint32_t mem_cost, uint32_t passes)
     return peer(&call, expected);
 }
 
-/* Whether the caller still blocks only SIGUSR2, as before each call. */
+/* Returns whether the caller still blocks only SIGUSR2, as before each call. */
 static bool has_its_signals(void)
 {
     sigset_t blocked;
@@ -37,7 +37,7 @@ static bool has_its_signals(void)
     return good;
 }
 
-/* How many threads a call starts. If one start is denied, it tries no more. */
+/* Returns how many threads a call starts. If one start is denied, it tries no more. */
 static bool starts_as_many(size_t beside, size_t refused)
 {
     const proved_argon2_options with = by(LANES);

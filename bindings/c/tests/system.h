@@ -97,7 +97,8 @@ static inline void refuse_request(size_t number)
     refused_request = number;
 }
 
-/* Whether the calling thread blocks the signals that come from outside: threads that it starts block them too. */
+/* Returns whether the calling thread blocks the signals that come from outside: threads that it starts block them too.
+ * */
 static inline bool has_blocked_signals(void)
 {
     static const int from_outside[] = {SIGHUP, SIGINT, SIGTERM, SIGALRM, SIGCHLD, SIGUSR1, SIGUSR2, SIGPIPE};
@@ -115,7 +116,7 @@ static inline bool has_small_stack(const pthread_attr_t *attributes)
     return attributes != NULL && pthread_attr_getstacksize(attributes, &size) == 0 && size / (256 * 1024) == 1;
 }
 
-/* Whether a start asks only whether such a stack would be large enough. */
+/* Returns whether a start asks only whether such a stack would be large enough. */
 static inline bool is_question(const pthread_attr_t *attributes)
 {
     int state = PTHREAD_CREATE_JOINABLE;

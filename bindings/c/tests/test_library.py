@@ -73,7 +73,7 @@ def output_of(*command, **how):
 
 @cache
 def checks_of(program):
-    """What a program's checks say."""
+    """Returns what a program's checks say."""
     if os.environ.get('PEER') == '0' and not (TESTS / program).exists():
         pytest.skip('there is no libargon2')
     return re.findall(r'^passed: (.*)$', output_of(TESTS / program, cwd=TESTS), re.M)

@@ -51,14 +51,14 @@ of_slapd = needs('slapd', os.path.exists(SLAPD) and shutil.which('ldapwhoami'))
 
 
 def run(name, *words):
-    """What a program prints over a library, and its status."""
+    """Returns what a program prints over a library, and its status."""
     done = subprocess.run([*map(str, words)], env={**os.environ, **LIBRARIES[name]}, stdin=subprocess.DEVNULL,
                           stdout=subprocess.PIPE, stderr=subprocess.STDOUT, check=False, timeout=600)
     return done.stdout.decode(), done.returncode
 
 
 def answer(*words, libraries=BOTH):
-    """What a program prints, which is the same over both libraries."""
+    """Returns what a program prints, which is the same over both libraries."""
     its, own = (run(name, *words)[0] for name in libraries)
     assert its == own != ''
     return own
@@ -90,7 +90,7 @@ both_languages = pytest.mark.parametrize('program', [
 @both_languages
 @pytest.mark.parametrize('maker', BOTH)
 def test_what_is_made_over_one_is_read_by_both(tmp_path, program, maker):
-    """With the right password alone."""
+    """Both accept the right password alone."""
     made = run(maker, *program, 'make')[0]
     (tmp_path / 'made').write_text(made)
     read = answer(*program, 'check', tmp_path / 'made').splitlines()

@@ -92,7 +92,7 @@ static int is_right_without_threads(void)
     return argon2id_ctx(&c) == ARGON2_OK && hash(same) == ARGON2_OK && memcmp(tag, same, LENGTH) == 0;
 }
 
-/* Whether right and wrong passwords are told apart, by 15 threads besides the caller's. */
+/* Returns whether right and wrong passwords are told apart, by 15 threads besides the caller's. */
 static int is_right_for_a_text(void)
 {
     char encoded[128];
@@ -102,7 +102,7 @@ static int is_right_for_a_text(void)
         && argon2id_verify(encoded, password, 7) == ARGON2_VERIFY_MISMATCH;
 }
 
-/* Whether a context's calls return the memory error, and leave the password, its length and out unchanged. */
+/* Returns whether a context's calls return the memory error, and leave the password, its length and out unchanged. */
 static int is_denied(void)
 {
     static const uint8_t zeros[LENGTH];

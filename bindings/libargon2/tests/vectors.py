@@ -71,7 +71,8 @@ def verify(text, password, kind):
 
 
 def is_right(password, text):
-    """Whether the password hashes to the text, which verifies no other one. Before version 19 a text had no version."""
+    """Returns whether the password hashes to the text, which verifies no other one. Before version 19 a text had no
+    version."""
     numbers = re.match(r'\$(\w+)\$v=(\d+)\$m=(\d+),t=(\d+),p=(\d+)\$(\w+)\$', text).groups()
     kind, (version, memory, passes, lanes) = TYPES.index(numbers[0]), map(int, numbers[1:5])
     salt, written = base64.b64decode(numbers[5] + '='), ctypes.create_string_buffer(108)

@@ -23,7 +23,7 @@ static size_t read_hex(const char *text, uint8_t *to)
     return len;
 }
 
-/* Whether a number is that of an error with this message. */
+/* Returns whether a number is that of an error with this message. */
 static int is_error(uint32_t code, const char *message)
 {
     return strcmp(proved_argon2_message(code), message) == 0;
@@ -40,7 +40,7 @@ static uint32_t variant_of(const char *name)
     (inputs)->bytes[0], (inputs)->len[0], (inputs)->bytes[1], (inputs)->len[1], (inputs)->bytes[2], (inputs)->len[2], \
         (inputs)->bytes[3], (inputs)->len[3]
 
-/* Whether calls with this many threads return the tag, accept it, and reject another one. */
+/* Returns whether calls with this many threads return the tag, accept it, and reject another one. */
 static int gives(
     uint32_t threads, const struct inputs *inputs, const proved_argon2_settings *settings, const char *result)
 {

@@ -50,7 +50,7 @@ static bool hash(const char *password, size_t length, uint32_t mem_cost, char *s
         == PROVED_ARGON2_OK;
 }
 
-/* Whether a login with the right password has this verdict. The client has left if `client` is not 0. */
+/* Returns whether a login with the right password has this verdict. The client has left if `client` is not 0. */
 static bool gives(enum verdict expected, const char *user, const char *password, size_t length, int client)
 {
     char stored[PROVED_ARGON2_TEXT_SIZE];
@@ -71,7 +71,7 @@ static bool is_bounded(void)
     return holds && gives(MATCHES, "somebody", "password", 8, 0);
 }
 
-/* Whether the bytes after a zero byte matter. */
+/* Returns whether the bytes after a zero byte matter. */
 static bool takes_all_bytes(void)
 {
     char stored[PROVED_ARGON2_TEXT_SIZE];
@@ -80,7 +80,7 @@ static bool takes_all_bytes(void)
         && gives(MATCHES, "somebody", "correct\0more", 12, 0);
 }
 
-/* Whether a hash that is too large for the buffer is verified, and nobody gets in without a stored hash. */
+/* Returns whether a hash that is too large for the buffer is verified, and nobody gets in without a stored hash. */
 static bool verifies_what_is_larger_and_nothing(void)
 {
     char stored[PROVED_ARGON2_TEXT_SIZE];
@@ -89,7 +89,7 @@ static bool verifies_what_is_larger_and_nothing(void)
         && strstr(stored, "m=19456,") != NULL && log_in(&logins, "nobody", "password", 8, NULL, NULL, NULL) == DIFFERS;
 }
 
-/* Whether a right password still matches if it cannot be hashed again, and the old hash is kept. */
+/* Returns whether a right password still matches if it cannot be hashed again, and the old hash is kept. */
 static bool keeps_the_old_hash(void)
 {
     char stored[PROVED_ARGON2_TEXT_SIZE];
@@ -146,7 +146,7 @@ static bool run(void *(*function)(void *), unsigned count)
     return true;
 }
 
-/* Whether none of AT_ONCE simultaneous logins is told to try again. */
+/* Returns whether none of AT_ONCE simultaneous logins is told to try again. */
 static bool serves_all_who_wait(void)
 {
     const int busy = seen[BUSY];

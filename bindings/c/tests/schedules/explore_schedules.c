@@ -111,7 +111,7 @@ static size_t arena_len(void)
     return 4 * slice_len() * sizeof(block);
 }
 
-/* Whether something fails here: at most one thing does in a run. */
+/* Returns whether something fails here: at most one thing does in a run. */
 static bool fails(uint32_t code)
 {
     if (run.code != PROVED_ARGON2_OK || choose(2) == 0) {
@@ -191,7 +191,8 @@ static bool is_in_step(void)
     return !model.is_over && model.step <= 4 * (uint64_t)asked.passes;
 }
 
-/* Whether the running thread is in this step. Each thread except the caller's counts the steps that it has entered. */
+/* Returns whether the running thread is in this step. Each thread except the caller's counts the steps that it has
+ * entered. */
 static bool is_in(uint64_t step)
 {
     return current == 0 ? is_in_step() && step == model.step : step + 1 == model.entered[current];
@@ -232,7 +233,7 @@ static bool are_codes_zero(void)
     return are_zero;
 }
 
-/* Whether the caller's thread may stop: after the last step, or after a whole step. */
+/* Returns whether the caller's thread may stop: after the last step, or after a whole step. */
 static bool can_stop(void)
 {
     return !model.is_over && (model.step == 4 * (uint64_t)asked.passes + 1 || are_workers_through());

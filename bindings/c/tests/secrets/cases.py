@@ -61,8 +61,8 @@ class Vector(NamedTuple):
         return self.passes * self.memory
 
     def references(self):
-        """How many blocks have a reference that a block selects: none in Argon2i; in Argon2d all except the first two
-        of each lane; in Argon2id all after the first two slices of the first pass (RFC 9106, 3.4)."""
+        """Returns how many blocks have a reference that a block selects: none in Argon2i; in Argon2d all except the
+        first two of each lane; in Argon2id all after the first two slices of the first pass (RFC 9106, 3.4)."""
         slices = self.lanes * (self.memory // (4 * self.lanes))
         others = 2 * self.lanes, 4 * slices * self.passes, 2 * slices
         return 4 * slices * self.passes - others[self.variant]
@@ -105,7 +105,7 @@ class Question(NamedTuple):
 
 
 def answers(said):
-    """What calls.c wrote."""
+    """Returns what calls.c wrote."""
     return [Answer(*parts) for parts in ANSWERED.iter_unpack(said)]
 
 
@@ -162,7 +162,7 @@ def verdicts_within(vector):
 
 
 def verdicts_on_others(text_and_code):
-    """On a text of another program."""
+    """Judges an encoded hash that another program made."""
     text, code = text_and_code
     inputs = Vector(VARIANTS.index('argon2i'), 0, 0, 0, 1, 0, b'password')
     return [Question(VERIFY_ENCODED, inputs, code, OF_A_TEXT, text, open=text.rindex(b'$') + 1)]
@@ -196,7 +196,7 @@ def texts_of(variant):
 
 
 def has_threads(vector):
-    """Whether the library starts threads for it, where it may."""
+    """Returns whether the library starts threads for it, where it may."""
     return vector.lanes > 1 and vector.memory >= OF_THREADS and vector.blocks() >= IN_ALL_PASSES
 
 

@@ -64,7 +64,7 @@ LONGER = b'a password that is longer than a block of BLAKE2b' * 3
 # ---- which instructions there are
 
 def unsteady(path, steady, prefix=''):
-    """How many instructions of each kind, not on the list `steady`, each function of a proved object has."""
+    """Returns how many instructions of each kind, not on the list `steady`, each function of a proved object has."""
     found, function = Counter(), None
     for line in run(f'{prefix}objdump', '-d', '--no-show-raw-insn', path).splitlines():
         if re.match(r'[0-9a-f]+ <.*>:$', line):
@@ -144,8 +144,8 @@ def test_a_planted_branch_is_seen(arm64):
 # ---- Rattle's calls
 
 def taken_by(function, line):
-    """How many instructions the program takes in a function for a line, and what it answers. (The environment is
-    empty: pytest changes a variable meanwhile, which moves the stack, and a copy's instructions depend on that.)"""
+    """Returns how many instructions the program takes in a function for a line, and what it answers. (The environment
+    is empty: pytest changes a variable meanwhile, which moves the stack, and a copy's instructions depend on that.)"""
     ran = subprocess.run(
         ['valgrind', '--tool=callgrind', '--callgrind-out-file=/dev/null', f'--toggle-collect={function}', PROGRAM],
         input=f'{line}\n', capture_output=True, text=True, check=True, timeout=SECONDS, env={})

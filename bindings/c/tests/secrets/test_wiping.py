@@ -80,7 +80,7 @@ pool = ThreadPoolExecutor(os.cpu_count())
 
 @cache
 def pieces(*vectors):
-    """What is sought of hashes: each piece once, with the name of what it belongs to."""
+    """Returns what is sought of hashes: each piece once, with the name of what it belongs to."""
     return [*dict.fromkeys((what, part[at:at + PIECE])
                            for vector in vectors for what, part, places in parts(vector) for at in places)]
 
@@ -158,8 +158,8 @@ class Program:
             yield ['setarch', '-R', 'env', f'LD_PRELOAD={self.preloaded}', f'PLAN={plan.name}', self.path]
 
     def found(self, runs, dropped=(), stops=()):
-        """How often each piece is found if calls are left out, run by run: at the end, in freed memory, above stops,
-        and below each stop, by its function."""
+        """Yields how often each piece is found if calls are left out, run by run: at the end, in freed memory, above
+        stops, and below each stop, by its function."""
         where = ['left', 'freed', 'above', *(function for function, _ in stops)]
         for number, one_run in enumerate(runs):
             # (with threads, the counts of the tag and the password differ between runs)
@@ -272,9 +272,9 @@ def runs_of_tests():
 
 
 def commands(hashing, salt, verifying):
-    """What the programs of the command line do: each hashes, with the salt as bytes or in hexadecimal, and verifies; in
-    both versions, since they fill the memory differently. Calls in one thread free the blocks without overwriting
-    them, since that would take time."""
+    """Yields what the programs of the command line do: each hashes, with the salt as bytes or in hexadecimal, and
+    verifies; in both versions, since they fill the memory differently. Calls in one thread free the blocks without
+    overwriting them, since that would take time."""
     for mode, version in product(('seq', 'par', 'max2'), (16, 19)):
         words, vector = [hashing, *f'argon2id {version} 2 64 4 32 {mode}'.split(), salt], LONG._replace(version=version)
         freed = blocks_of(vector) if mode == 'seq' else []
@@ -338,7 +338,7 @@ def test_what_is_left(program):
 
 
 def test_each_wipe_alone(program):
-    """For each function, in one of LOOKS looks, the absence is noticed of as many calls as wipes.txt says."""
+    """The search misses a function that does not wipe, in one of LOOKS looks, for as many calls as wipes.txt says."""
     expected = wrong = EXPECTED[program.name]
     for _ in range(LOOKS):
         found = Counter((site.callee, site.function, is_noticed) for site, is_noticed in program.each_left_out())
