@@ -94,7 +94,8 @@ def built(part=MACHINE):
 
 def linked_without_kernels(folder):
     """Links the library as SECURITY.md says, without compression that is not proved, and returns the folder with it."""
-    command, = re.findall(rf"^    (BUILDS=.* build/link {MACHINE}) release out ", (TOP / "SECURITY.md").read_text(), re.M)
+    page = (TOP / "SECURITY.md").read_text()
+    command, = re.findall(rf"^    (BUILDS=.* build/link {MACHINE}) release out ", page, re.M)
     run("sh", "-c", f'{command} "$0" "$1"', built(), folder)
     return folder / MACHINE
 

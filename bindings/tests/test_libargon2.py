@@ -129,9 +129,9 @@ def test_own_tests_of_libargon2(work, tmp_path):
 
 
 def test_own_tests_of_argon2_cffi(work, tmp_path):
-    """The tests are those of Debian's newest source, over Debian's bindings, which are built with the system's library. (The tests of its
-    packaging are left out, since they need installed files. The bindings get a file name that an older Python
-    finds.)"""
+    """The tests are those of Debian's newest source, over Debian's bindings, which are built with the system's library.
+    We leave out the tests of its packaging, since they need installed files. The bindings get a file name that an older
+    Python finds."""
     pytest.importorskip("hypothesis")
     source = fetched("source", "python-argon2", tmp_path / "cffi")
     bindings = fetched("package", "python3-argon2-cffi-bindings", tmp_path / "bindings")

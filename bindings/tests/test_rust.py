@@ -487,7 +487,7 @@ def test_the_build_script_compiles_the_library_as_c_for_a_target_without_an_arch
 
 
 def test_the_build_script_uses_an_installation_only_for_this_machine(built, other, tmp_path):
-    """An installation serves the same processor and system, even if the target's first word is not cargo's name of it."""
+    """The processor and the system have to be the same. The target's first word may not be cargo's processor name."""
     shutil.rmtree(other.folder / "release")
     (tmp_path / "proved_argon2.pc").write_text(f"libdir={built / MACHINE}\nName: x\nDescription: x\nVersion: 1\n")
     for target in ("aarch64-unknown-linux-gnu aarch64 linux gnu 64", WINDOWS):
