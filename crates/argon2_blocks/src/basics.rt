@@ -1,16 +1,11 @@
-//! What our crates need of the language's own library, under its names and with its contracts.
+//! What our crates need of the language's own library, under its names.
 //!
 //! Code reachable from C's calls uses these functions, so that the C library contains no code of
 //! the language's library, which comes without a licence (docs/DECISIONS.md).
 
-ghost use Rattle.std.specs.Prelude.{◌≡◌, ◌≢◌, ◌+◌, ◌≤◌, ◌++◌, drop, length, min, replicate, take};
+ghost use Rattle.std.specs.Prelude.{◌≡◌, ◌≢◌, ◌%◌, length, min, replicate};
 ghost use Rattle.std.specs.Bool.{MatchBool};
-ghost use Rattle.std.specs.Int.{w32, w64, from_le_bytes, rotate_right, to_le_bytes};
-ghost use types.Logic.{sem};
-ghost use denote.Array.{Array};
-ghost use denote.Follow.{follows_both};
-
-use std::slice::from_raw_parts_mut;
+ghost use Rattle.std.specs.Int.{w32, w64, from_le_bytes, to_le_bytes};
 
 /// The lesser of two numbers.
 pub fn min(one: usize, other: usize) -> usize
@@ -19,23 +14,23 @@ pub fn min(one: usize, other: usize) -> usize
     if other < one { other } else { one }
 }
 
-/// A word rotated right by `bits`, of which only the remainder by 64 counts.
-pub fn rotate_right(word: u64, bits: u32) -> u64
-    ensures { result ≡ rotate_right w64 word bits }
+/// The lowest byte of a word.
+fn low_byte(word: u64) -> u8
+    ensures { result ≡ word % 256 }
 {
-    let right = bits % 64;
-    (word >> right) | (word << ((64 - right) % 64))
+    (word % 256) as u8
 }
 
 /// The bytes of a number, the lowest first.
 pub fn u32_to_le_bytes(number: u32) -> [u8; 4]
     ensures { result ≡ to_le_bytes w32 number }
 {
+    let value = number as u64;
     [
-        (number % 0x100) as u8,
-        (number / 0x100 % 0x100) as u8,
-        (number / 0x1_0000 % 0x100) as u8,
-        (number / 0x100_0000 % 0x100) as u8,
+        low_byte(value),
+        low_byte(value >> 8),
+        low_byte(value >> 16),
+        low_byte(value >> 24),
     ]
 }
 
@@ -44,14 +39,14 @@ pub fn u64_to_le_bytes(word: u64) -> [u8; 8]
     ensures { result ≡ to_le_bytes w64 word }
 {
     [
-        (word % 0x100) as u8,
-        (word / 0x100 % 0x100) as u8,
-        (word / 0x1_0000 % 0x100) as u8,
-        (word / 0x100_0000 % 0x100) as u8,
-        (word / 0x1_0000_0000 % 0x100) as u8,
-        (word / 0x100_0000_0000 % 0x100) as u8,
-        (word / 0x1_0000_0000_0000 % 0x100) as u8,
-        (word / 0x100_0000_0000_0000 % 0x100) as u8,
+        low_byte(word),
+        low_byte(word >> 8),
+        low_byte(word >> 16),
+        low_byte(word >> 24),
+        low_byte(word >> 32),
+        low_byte(word >> 40),
+        low_byte(word >> 48),
+        low_byte(word >> 56),
     ]
 }
 
@@ -63,43 +58,6 @@ pub fn u64_from_le_bytes(bytes: [u8; 8]) -> u64
     let low = a as u64 + b as u64 * 0x100 + c as u64 * 0x1_0000 + d as u64 * 0x100_0000;
     let high = e as u64 + f as u64 * 0x100 + g as u64 * 0x1_0000 + h as u64 * 0x100_0000;
     low + high * 0x1_0000_0000
-}
-
-/// The first `mid` elements, and the rest.
-pub fn split_at<T>(items: &[T], mid: usize) -> (&[T], &[T])
-    requires { mid ≤ length items.now }
-    ensures front { result.0.now ≡ take mid items.now }
-    ensures back { result.1.now ≡ drop mid items.now }
-    ensures front_len { length result.0.now ≡ mid }
-    ensures back_len { length result.1.now + mid ≡ length items.now }
-{
-    (&items[..mid], &items[mid..])
-}
-
-/// The first `mid` elements, and the rest, which the caller can change at the same time.
-///
-/// The borrow checker does not see that two parts of a slice do not overlap. So this function makes
-/// the parts from a raw pointer, and it is proved by hand (proofs/basics/split_at_mut/Proof.antt).
-pub fn split_at_mut<T>(items: &mut [T], mid: usize) -> (&mut [T], &mut [T])
-    requires { mid ≤ length items.old }
-    ensures* writes_back { let row = Array T.row 0 in
-        sem 𝓛 (follows_both row row row items.entry.ghost_name
-        result.0.ghost_name result.1.ghost_name ◌++◌) }
-    ensures value { items.old ≡ result.0.now ++ result.1.now }
-    ensures front { result.0.now ≡ take mid items.old }
-    ensures back { result.1.now ≡ drop mid items.old }
-    ensures front_len { length result.0.now ≡ mid }
-    ensures back_len { length result.1.now + mid ≡ length items.old }
-{
-    let remaining = items.len() - mid;
-    let start = items.as_mut_ptr();
-    unsafe {
-        let middle = start.add(mid);
-        (
-            from_raw_parts_mut(start, mid),
-            from_raw_parts_mut(middle, remaining),
-        )
-    }
 }
 
 /// Copies the elements of a slice of the same length.

@@ -10,7 +10,7 @@ ghost use Rattle.argon2_c.specs.Settings.{config_of};
 use crate::errors::CallError;
 use crate::settings::{Settings, settings_error, text_len};
 use argon2::Config;
-use argon2_blocks::basics::{fill, split_at_mut};
+use argon2_blocks::basics::fill;
 use argon2_text::encoding::write_encoded_by_sums;
 
 /// Writes the encoded hash of a given tag, and zeros behind it, to a buffer that is longer. The
@@ -57,8 +57,8 @@ fn write_tag_text(
     if text.len() as u64 <= len {
         return Err(CallError::WrongLength);
     }
-    let (written, rest) = split_at_mut(text, len as usize);
-    write_encoded_by_sums(config, salt, tag, written);
-    fill(rest, 0);
+    let end = len as usize;
+    write_encoded_by_sums(config, salt, tag, &mut text[..end]);
+    fill(&mut text[end..], 0);
     Ok(())
 }

@@ -17,7 +17,7 @@ ghost use Rattle.argon2_blocks.specs.Standard.Block.{block_bytes, xor, zero_bloc
 ghost use Rattle.argon2_blocks.specs.Standard.Hprime.{hprime};
 
 use crate::workers::{NoGate, fill_parallel};
-use argon2_blocks::basics::{copy_from_slice, split_at_mut, u32_to_le_bytes};
+use argon2_blocks::basics::{copy_from_slice, u32_to_le_bytes};
 use argon2_blocks::blake2b::{hprime, wipe};
 use argon2_blocks::block::Block;
 use argon2_blocks::common::{BLOCK_SIZE, PREHASH_DIGEST_LENGTH, PREHASH_SEED_LENGTH};
@@ -75,16 +75,23 @@ pub fn initialize(context: &Context<'_>, memory: &mut Memory)
     }
 }
 
+/// Writes two byte strings, one behind the other.
+fn put_both(out: &mut [u8], first: &[u8], second: &[u8])
+    requires { length first.now + length second.now ≡ length out.old }
+    ensures { out.new ≡ first.now ++ second.now }
+{
+    copy_from_slice(&mut out[..first.len()], first);
+    copy_from_slice(&mut out[first.len()..], second);
+}
+
 /// Writes the H' input for a lane's first or second block.
 fn first_input(prehash: &[u8; PREHASH_DIGEST_LENGTH], lane: u32, column: u32, out: &mut [u8])
     requires { length out.old ≡ 72 }
     ensures { out.new ≡ prehash.now ++ to_le_bytes w32 column ++ to_le_bytes w32 lane }
 {
-    let (head, rest) = split_at_mut(out, PREHASH_DIGEST_LENGTH);
-    let (middle, tail) = split_at_mut(rest, 4);
-    copy_from_slice(head, prehash);
-    copy_from_slice(middle, &u32_to_le_bytes(column));
-    copy_from_slice(tail, &u32_to_le_bytes(lane));
+    let mut place = [0; 8];
+    put_both(&mut place, &u32_to_le_bytes(column), &u32_to_le_bytes(lane));
+    put_both(out, prehash, &place);
 }
 
 /// Writes one of a lane's first two blocks (RFC 9106, 3.2, steps 3 and 4).

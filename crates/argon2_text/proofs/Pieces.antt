@@ -1,11 +1,12 @@
 -- A string is cut into pieces, and a number is read.
-use Rattle.std.proofs.Common.{◌≡◌, ◌≢◌, ℕ, zero, suc, ◌+◌, ◌<◌, ◌==◌, false, List, [], ◌∷◌, ◌++◌, length, get_or, take, drop, Option, Some, None}
+use Rattle.std.proofs.Common.{◌≡◌, ◌≢◌, ℕ, zero, suc, ◌+◌, ◌-◌, ◌<◌, ◌==◌, false, List, [], ◌∷◌, ◌++◌, length, get_or, take, drop, Option, Some, None}
 use Rattle.std.proofs.Common.{refl, sym, ap, ◌∙◌, arith, ◌⊎◌, inl, inr, eq-eqb, subst, append_assoc, ◌^◌, ◌≤◌, Result, Ok, Err}
 use Rattle.std.specs.Prelude.{option_map, MatchOption, codes, IfSome}
 use Rattle.std.specs.List.{list_any}
 use Rattle.std.specs.Borrow.{Bor}
 use Rattle.std.specs.Str.Pattern.{FindsTextPrefix}
 use Rattle.std.proofs.lemmas.Bool.{ne_eqb, cases_eq, or_parts}
+use Rattle.std.proofs.lemmas.List.{length-drop, take_all}
 use Rattle.std.proofs.lemmas.Option.{some_pair_parts, same_Some}
 use Rattle.argon2_standard.specs.Standard.Grammar.{Lacks, Pieces, text_of_pieces, IsNumber}
 use Rattle.argon2_text.specs.Views.Cutting.{strip, cut, ◌>>=◌, piece, version_behind, version_piece, pieces_of}
@@ -13,6 +14,10 @@ use Rattle.argon2_text.specs.Views.Faults.{IsSplit, IsNoNumber}
 use Rattle.std.specs.Str.Parse.{IsNumeral, AllDigits, ParsesUnsigned, digits_value, without_leading_plus}
 use Rattle.std.specs.Result.{result_ok}
 use Rattle.std.proofs.lemmas.Str.Parse.{digit_from_value, without_leading_plus_none, without_leading_plus_plus}
+
+-- the elements of the slice `xs[at..]`
+pub elements_from : (at : ℕ) (xs : List ℕ) → take (length xs - at) (drop at xs) ≡ drop at xs
+elements_from at xs = take_all (length xs - at) (drop at xs) (omega (arith, length-drop at xs))
 
 -- ---- cutting a string at a byte (`cut`) and after a front (`strip`), joining the parts again, and how std's methods
 -- give the same results
@@ -77,7 +82,7 @@ strip_gives front text (Some x) h =
 
 -- a string with its first mark at index `at` is cut into its first `at` bytes and what is behind the mark
 pub cut_at : (mark : ℕ) (text : List ℕ) (at : ℕ) → at < length text → get_or text at 0 ≡ mark → ((i : ℕ) → i < at → get_or text i 0 ≢ mark)
-    → cut mark text ≡ Some (take at text, drop 1 (drop at text))
+    → cut mark text ≡ Some (take at text, drop (suc at) text)
 cut_at mark [] at lt is before = absurd (omega arith)
 cut_at mark (b ∷ text) zero lt is before = rw (eq-eqb b mark is) refl
 cut_at mark (b ∷ text) (suc at) lt is before =

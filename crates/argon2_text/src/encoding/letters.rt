@@ -10,8 +10,6 @@ ghost use Rattle.argon2_standard.specs.Standard.Text.{base64};
 ghost use Rattle.argon2_text.specs.Views.Faults.{IsSomeItem};
 ghost use Rattle.argon2_text.specs.Views.Letters.{bits_of, bytes_read, fault_of, faults_of, letter_of, reaches};
 
-use argon2_blocks::basics::split_at;
-
 /// Whether a string is the unpadded base64 of some bytes. It goes on to the last character, and
 /// allocates nothing, so that invalid base64 is found even without memory.
 pub fn is_item(text: &[u8]) -> bool
@@ -21,9 +19,8 @@ pub fn is_item(text: &[u8]) -> bool
     let mut faults: usize = 0;
     let mut rest = text;
     while rest.len() >= 4 {
-        let (group, behind) = split_at(rest, 4);
-        faults += group_faults(group) as usize;
-        rest = behind;
+        faults += group_faults(&rest[..4]) as usize;
+        rest = &rest[4..];
     }
     // `&` and not `&&`, so that one branch decides for all characters.
     (faults == 0) & (tail_faults(rest) == 0)

@@ -11,7 +11,6 @@ ghost use Rattle.argon2_standard.specs.Views.Names.{IsNoName};
 
 use crate::encoding::letters::{is_item, item_len};
 use crate::numbers::Numbers;
-use argon2_blocks::basics::split_at;
 use argon2_standard::variant::Variant;
 use argon2_standard::version::Version;
 
@@ -197,8 +196,7 @@ fn strip<'a>(text: &'a [u8], front: &[u8]) -> Option<&'a [u8]>
             return None;
         }
     }
-    let (_front, rest) = split_at(text, front.len());
-    Some(rest)
+    Some(&text[front.len()..])
 }
 
 /// What is before the first `mark`, and what is after it. It looks at no byte behind the mark.
@@ -208,9 +206,7 @@ fn cut(text: &[u8], mark: u8) -> Option<(&[u8], &[u8])>
     let Some(at) = first(text, mark) else {
         return None;
     };
-    let (before, rest) = split_at(text, at);
-    let (_mark, behind) = split_at(rest, 1);
-    Some((before, behind))
+    Some((&text[..at], &text[at + 1..]))
 }
 
 /// Where the first `mark` is. This search looks at no byte behind the mark; a search of many bytes

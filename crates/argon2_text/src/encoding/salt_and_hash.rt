@@ -16,7 +16,6 @@ ghost use Rattle.base64.specs.Rfc4648.{unpadded_len};
 use crate::encoding::lengths::characters;
 use crate::encoding::letters::{bits, four_letters, letter, three_bytes};
 use crate::encoding::placing::put;
-use argon2_blocks::basics::split_at;
 use base64::engine::general_purpose::STANDARD_NO_PAD;
 
 /// Puts the unpadded base64 of a salt behind the first `at` bytes of a buffer. Returns where it
@@ -54,9 +53,8 @@ pub fn put_hash(out: &mut [u8], at: usize, hash: &[u8])
     let mut at = at;
     let mut rest = hash;
     while rest.len() >= 3 {
-        let (group, behind) = split_at(rest, 3);
-        at = put(out, at, &four_letters(group));
-        rest = behind;
+        at = put(out, at, &four_letters(&rest[..3]));
+        rest = &rest[3..];
     }
     put_last_letters(out, at, rest);
 }
@@ -105,9 +103,8 @@ pub fn read_item(text: &[u8], item: &mut [u8])
     let mut at = 0;
     let mut rest = text;
     while rest.len() >= 4 {
-        let (group, behind) = split_at(rest, 4);
-        at = put(item, at, &three_bytes(group));
-        rest = behind;
+        at = put(item, at, &three_bytes(&rest[..4]));
+        rest = &rest[4..];
     }
     put_last_bytes(item, at, rest);
 }

@@ -1,20 +1,20 @@
-use Rattle.std.proofs.Common.{◌≡◌, ◌++◌, take-append-drop, ap, arith}
+use Rattle.std.proofs.Common.{length, take, drop, length-drop, length-take-le, take-append-drop, ap, arith}
 use Rattle.std.proofs.lemmas.Bool.{and_parts, and_from, eqb-true, eq-eqb}
 use Rattle.argon2_text.specs.Views.Letters.{faults_of}
 use Rattle.base64.specs.GeneralPurpose.{IsBytes}
 use Rattle.argon2_text.proofs.Letters.{faults_behind, faults_tell}
+use Rattle.argon2_text.proofs.Pieces.{elements_from}
 use Rattle.argon2_text.proofs.encoding.letters.is_item.Goals as goal
 
 pub loop-rest-preserved : goal.loop-rest-preserved
 loop-rest-preserved c =
-    let group = c.split_at.result.0.now in
-    let behind = c.split_at.result.1.now in
-    let both = faults_behind group behind c.split_at.ensures.front_len in
-    let whole : group ++ behind ≡ c.loop-rest.rest.now = rw (c.split_at.ensures.front, c.split_at.ensures.back) (take-append-drop 4 c.loop-rest.rest.now) in
-    let parts = ap faults_of whole in
+    let rest = c.loop-rest.rest.now in
+    let both = faults_behind (take 4 rest) (drop 4 rest) (length-take-le 4 rest (omega (arith, c.loop-rest-test.true))) in
+    let behind = ap faults_of (elements_from 4 rest) in
+    let parts = ap faults_of (take-append-drop 4 rest) in
     record {
-      all = omega (arith, both, parts, c.group_faults.ensures.value, c.loop-rest.invariant.all);
-      fits = omega (arith, c.group_faults.ensures.few, c.loop-rest.invariant.fits, c.split_at.ensures.back_len, c.loop-rest-test.true);
+      all = omega (arith, both, parts, c.group_faults.ensures.value, c.loop-rest.invariant.all, behind);
+      fits = omega (arith, c.group_faults.ensures.few, c.loop-rest.invariant.fits, length-drop 4 rest, ap length (elements_from 4 rest), c.loop-rest-test.true);
     }
 
 pub returns : goal.returns

@@ -1,5 +1,5 @@
-use Rattle.std.proofs.Common.{sym}
-use Rattle.argon2_text.proofs.Pieces.{Lacks-from_places, cut_at, cut_none}
+use Rattle.std.proofs.Common.{◌≡◌, suc, ◌+◌, sym, arith}
+use Rattle.argon2_text.proofs.Pieces.{Lacks-from_places, cut_at, cut_none, elements_from}
 use Rattle.argon2_text.proofs.encoding.reading.cut.Goals as goal
 
 pub returns-in_default : goal.returns-in_default
@@ -8,5 +8,5 @@ returns-in_default c = let text = c.args.text.now in sym (cut_none c.args.mark t
 pub returns : goal.returns
 returns c =
     let found = c.in-Some.ensures in
-    rw (c.split_at.ensures.front, c.split_at-2.ensures.back, c.split_at.ensures.back)
-    (sym (cut_at c.args.mark c.args.text.now c.in-Some.at found.0 found.1 found.2))
+    let next : c.in-Some.at + 1 ≡ suc c.in-Some.at = omega arith in
+    rw (elements_from (c.in-Some.at + 1) c.args.text.now, next) (sym (cut_at c.args.mark c.args.text.now c.in-Some.at found.0 found.1 found.2))

@@ -1,7 +1,7 @@
 use Rattle.std.proofs.Common.{ℕ, List, ◌≡◌, ◌≢◌, ◌<◌, ◌++◌, None, length, take, drop, get_or, arith, ap, sym, ◌∙◌}
 use Rattle.std.proofs.lemmas.List.{length-append, get_or_append_left, take-append-drop, take_all}
 use Rattle.argon2_text.specs.Views.Cutting.{strip}
-use Rattle.argon2_text.proofs.Pieces.{strip_none, strip-again}
+use Rattle.argon2_text.proofs.Pieces.{elements_from, strip_none, strip-again}
 use Rattle.argon2_text.proofs.encoding.reading.strip.Goals as goal
 
 -- stripping finds nothing in a string that is shorter than the front
@@ -29,4 +29,4 @@ returns c =
     let front = c.args.front.now in
     let end : c.loop-at.at ≡ length front = omega (arith, c.loop-at-test.false, c.loop-at.auto.at-end) in
     let same : take (length front) text ≡ front = (rw end at c.loop-at.invariant) ∙ take_all (length front) front (omega arith) in
-    rw c.split_at.ensures.back (sym (ap (strip front) (begins front text same) ∙ strip-again front (drop (length front) text)))
+    rw (elements_from (length front) text) (sym (ap (strip front) (begins front text same) ∙ strip-again front (drop (length front) text)))
