@@ -113,9 +113,8 @@ def test_calls_in_each_mode_compress_each_block_once(settings):
 
 
 def test_calls_by_value_start_their_threads():
-    """The six calls of argon2_scheduled fill four lanes in three passes. Five start a thread for each lane of each
-    slice. The sixth, on a job, fills one lane of each slice in the caller's thread. The theorem about these calls does
-    not say that they start any thread."""
+    """The five calls of argon2_scheduled fill four lanes in three passes, and start a thread for each lane of each
+    slice. The theorem about these calls does not say that they start any thread."""
     came = run([copy_of('argon2_scheduled')])
     assert came.end(0, (TOP / 'crates/argon2_scheduled/stdout').read_text(encoding='utf-8')) == VALUE
-    assert came.met['start'] == 3 * SLICES * (5 * 4 + 3)
+    assert came.met['start'] == 3 * SLICES * 5 * 4

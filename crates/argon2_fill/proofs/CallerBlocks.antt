@@ -1,8 +1,8 @@
 -- Caller-provided blocks while they are filled.
 use Rattle.std.proofs.Common.{◌≡◌, ◌≢◌, ℕ, ◌+◌, ◌-◌, ◌*◌, ◌<◌, ◌≤◌, List, [], ◌∷◌, ◌++◌, length, take, drop, set, get_or, refl, arith, inl, inr, sym}
-use Rattle.std.proofs.Common.{◌∙◌, ap, subst, ◌/◌}
+use Rattle.std.proofs.Common.{◌∙◌, ap, subst}
 use Rattle.std.specs.List.{remove}
-use Rattle.std.proofs.Math.Nat.{mul-le-mul_right, div-lt_iff_lt-mul, mul-div_cancel}
+use Rattle.std.proofs.Math.Nat.{mul-le-mul_right}
 use Rattle.std.proofs.lemmas.Bool.Decides.{eqb_tells}
 use Rattle.std.proofs.lemmas.Bool.{cases_lt}
 use Rattle.std.proofs.lemmas.List.{get_or_append_left, get_or-append_right, get_or-set_other, get_or-set_same, get_or-take, get_or-drop, length-take}
@@ -12,10 +12,9 @@ use Rattle.argon2_standard.specs.Standard.Recurrence.{first_block}
 use Rattle.argon2_memory.specs.Views.Jobs.{IsSetting, Job, IsJob}
 use Rattle.argon2_memory.specs.Views.Places.{AreFilledBelow, Fills, FillsAmong, HoldOthers, HoldsSlice, IsReadySlice, among, blocks_of_lane}
 use Rattle.argon2_memory.specs.Views.Places.{places_of_slices}
-use Rattle.argon2_memory.specs.Views.Segments.{IsReady, segment_at}
+use Rattle.argon2_memory.specs.Views.Segments.{IsReady}
 use Rattle.argon2_memory.proofs.Slices.{get-blocks_of_lane, length-blocks_of_lane, among-remove, others_hold, filled_further}
 use Rattle.argon2_fill.proofs.Passes.{ready_first}
-use Rattle.argon2_fill.specs.Views.Chunks.{CanFill}
 
 -- ---- filling one lane of a caller-provided slice, and going from slice to slice
 
@@ -123,32 +122,3 @@ fills_among j m few lane old new fills held =
       lower = λ k l h fits. same k l (λ n. absurd (omega (arith, h, n))) ∙ held.lower k l h fits;
       upper = λ k l last low high fits p. same k l (λ n. absurd (omega (arith, low, n))) ∙ held.upper k l last low high fits p;
     })
-
--- ---- a chunk of a slice is a lane's segment
-
-pub below_mul : (n lanes seg : ℕ) → 0 < seg → n < lanes → n * seg < lanes * seg
-below_mul n lanes seg some below = grind arith
-
-pub can_fill : (j : Job) (first second third slice : List (List ℕ)) (start : ℕ) (own : List (List ℕ)) → 0 < j.setting.segment_length
-    → length first ≡ j.setting.lanes * j.setting.segment_length → length second ≡ j.setting.lanes * j.setting.segment_length
-    → length third ≡ j.setting.lanes * j.setting.segment_length → length slice ≡ j.setting.lanes * j.setting.segment_length
-    → start < length slice → length own ≡ j.setting.segment_length → CanFill j first second third start own
-can_fill j first second third slice start own some one two three four within len = record {
-  lane_fits = (div-lt_iff_lt-mul some).1 (subst (λ n. start < n) four within);
-  first_fits = one;
-  second_fits = two;
-  third_fits = three;
-  own_fits = len;
-}
-
-pub filled_lane : (j : Job) (others : List (List (List ℕ))) (lane n : ℕ) (old new arg after : List (List ℕ)) → n ≡ j.setting.segment_length → 0 < j.setting.segment_length
-    → arg ≡ take n (drop (lane * n) old) → FillsAmong j (lane * n / j.setting.segment_length) others arg after → after ≡ take n (drop (lane * n) new)
-    → HoldOthers j (among j (places_of_slices j.setting others)) → IsReadySlice j.setting j.pass j.slice (blocks_of_lane j.setting old) → lane < j.setting.lanes
-    → blocks_of_lane j.setting new lane ≡ segment_at j.setting j.pass j.slice lane
-filled_lane j others lane n old new arg after e some argument fills left holds ready fits =
-    let seg = j.setting.segment_length in
-    let was : arg ≡ blocks_of_lane j.setting old lane = subst (λ k. arg ≡ take k (drop (lane * k) old)) e argument in
-    let is : after ≡ blocks_of_lane j.setting new lane = subst (λ k. after ≡ take k (drop (lane * k) new)) e left in
-    let place : lane * n / seg ≡ lane = ap (λ k. lane * k / seg) e ∙ mul-div_cancel lane some in
-    let own : FillsAmong j lane others arg after = subst (λ l. FillsAmong j l others arg after) place fills in
-    sym is ∙ own holds (subst (λ o. IsReady j.setting j.pass j.slice lane o) (sym was) (ready lane fits))

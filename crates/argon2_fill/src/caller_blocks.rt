@@ -92,68 +92,39 @@ fn fill_lane(
     fill_caller_segment(job, lane, first, second, third, own);
 }
 
-/// How the lanes of a slice are filled.
-pub trait SliceFilling {
-    /// What a caller has to prove before it uses the filling.
-    ghost can_fill: { Type 0 };
-
-    /// Fills the job's slice, beside the other three in rising order.
-    fn fill_slice(
-        &self,
-        job: &Job,
-        first: &[Block],
-        second: &[Block],
-        third: &[Block],
-        slice: &mut [Block],
-    )
-        requires can_fill { can_fill }
-        requires first_fits { length first.now
-            ≡ job.now.setting.lanes * job.now.setting.segment_length }
-        requires second_fits { length second.now
-            ≡ job.now.setting.lanes * job.now.setting.segment_length }
-        requires third_fits { length third.now
-            ≡ job.now.setting.lanes * job.now.setting.segment_length }
-        requires slice_fits { length slice.old
-            ≡ job.now.setting.lanes * job.now.setting.segment_length }
-        ensures { let j = job.now in
-            let others = places_of_slices j.setting (first.now ∷ second.now ∷ third.now ∷ []) in
-            HoldOthers j (among j others)
-            → IsReadySlice j.setting j.pass j.slice (blocks_of_lane j.setting slice.old)
-            → HoldsSlice j.setting j.pass j.slice (blocks_of_lane j.setting slice.new) };
-}
-
-/// Lane after lane, in the caller's thread.
-#[derive(Clone, Copy, Debug)]
-pub struct InTurn;
-
-impl SliceFilling for InTurn {
-    ghost can_fill = { Unit {0} };
-
-    fn fill_slice(
-        &self,
-        job: &Job,
-        first: &[Block],
-        second: &[Block],
-        third: &[Block],
-        slice: &mut [Block],
-    ) {
-        for lane in 0..job.lanes() {
-            fill_lane(job, lane, first, second, third, slice);
-        }
+/// Fills the job's slice, lane after lane, beside the other three in rising order.
+fn fill_caller_slice(
+    job: &Job,
+    first: &[Block],
+    second: &[Block],
+    third: &[Block],
+    slice: &mut [Block],
+)
+    requires first_fits { length first.now ≡ job.now.setting.lanes * job.now.setting.segment_length }
+    requires second_fits { length second.now
+        ≡ job.now.setting.lanes * job.now.setting.segment_length }
+    requires third_fits { length third.now ≡ job.now.setting.lanes * job.now.setting.segment_length }
+    requires slice_fits { length slice.old ≡ job.now.setting.lanes * job.now.setting.segment_length }
+    ensures { let j = job.now in
+        let others = places_of_slices j.setting (first.now ∷ second.now ∷ third.now ∷ []) in
+        HoldOthers j (among j others)
+        → IsReadySlice j.setting j.pass j.slice (blocks_of_lane j.setting slice.old)
+        → HoldsSlice j.setting j.pass j.slice (blocks_of_lane j.setting slice.new) }
+{
+    for lane in 0..job.lanes() {
+        fill_lane(job, lane, first, second, third, slice);
     }
 }
 
 /// Fills the job's slice of the four. They are four references, since one slice is written while
 /// the others are read. The others keep their rising order, by which their blocks are found.
-fn fill_one_of_four<F: SliceFilling>(
-    filling: &F,
+fn fill_one_of_four(
     job: &Job,
     first: &mut [Block],
     second: &mut [Block],
     third: &mut [Block],
     fourth: &mut [Block],
 )
-    requires can_fill { F.can_fill }
     requires first_fits { length first.old ≡ job.now.setting.lanes * job.now.setting.segment_length }
     requires second_fits { length second.old
         ≡ job.now.setting.lanes * job.now.setting.segment_length }
@@ -167,23 +138,21 @@ fn fill_one_of_four<F: SliceFilling>(
 {
     facts_of_job(job);
     match job.slice() {
-        0 => filling.fill_slice(job, second, third, fourth, first),
-        1 => filling.fill_slice(job, first, third, fourth, second),
-        2 => filling.fill_slice(job, first, second, fourth, third),
-        _ => filling.fill_slice(job, first, second, third, fourth),
+        0 => fill_caller_slice(job, second, third, fourth, first),
+        1 => fill_caller_slice(job, first, third, fourth, second),
+        2 => fill_caller_slice(job, first, second, fourth, third),
+        _ => fill_caller_slice(job, first, second, third, fourth),
     }
 }
 
 /// Fills all slices of all passes, one after another.
-pub fn fill_caller_slices<F: SliceFilling>(
-    filling: &F,
+pub fn fill_caller_slices(
     job: &Job,
     first: &mut [Block],
     second: &mut [Block],
     third: &mut [Block],
     fourth: &mut [Block],
 )
-    requires can_fill { F.can_fill }
     requires first_fits { length first.old ≡ job.now.setting.lanes * job.now.setting.segment_length }
     requires second_fits { length second.old
         ≡ job.now.setting.lanes * job.now.setting.segment_length }
@@ -197,7 +166,7 @@ pub fn fill_caller_slices<F: SliceFilling>(
     facts_of_job(job);
     // One loop over the slices of all passes, so that one invariant serves for all.
     for n in 0..slice_count(job) {
-        fill_one_of_four(filling, &numbered_job(job, n), first, second, third, fourth);
+        fill_one_of_four(&numbered_job(job, n), first, second, third, fourth);
     }
 }
 
@@ -237,13 +206,7 @@ pub fn finalize_slice(job: &Job, slice: &[Block], out: &mut [u8])
 /// Writes the tag of a job, as long as `out`, into `out`. The tag is computed over a memory that
 /// the caller provides whole, slice after slice. The job's pass and slice are ignored. The call
 /// allocates nothing and always succeeds.
-pub fn hash_job_over_with<F: SliceFilling>(
-    filling: &F,
-    job: &Job,
-    blocks: &mut [Block],
-    out: &mut [u8],
-)
-    requires can_fill { F.can_fill }
+pub fn hash_job_over(job: &Job, blocks: &mut [Block], out: &mut [u8])
     requires blocks_fit { length blocks.old ≡ memory_blocks job.now.setting }
     requires some { 0 < length out.old }
     requires few { length out.old < 2 ^ 32 }
@@ -255,18 +218,8 @@ pub fn hash_job_over_with<F: SliceFilling>(
     let (second, others) = first_and_others(others, length);
     let (third, fourth) = first_and_others(others, length);
     begin_slice(job, first);
-    fill_caller_slices(filling, job, first, second, third, fourth);
+    fill_caller_slices(job, first, second, third, fourth);
     finalize_slice(job, fourth, out);
-}
-
-/// The same in the caller's thread.
-pub fn hash_job_over(job: &Job, blocks: &mut [Block], out: &mut [u8])
-    requires blocks_fit { length blocks.old ≡ memory_blocks job.now.setting }
-    requires some { 0 < length out.old }
-    requires few { length out.old < 2 ^ 32 }
-    ensures { out.new ≡ tag_from (last_blocks job.now.setting) (length out.old) }
-{
-    hash_job_over_with(&InTurn, job, blocks, out);
 }
 
 /// The tag of an accepted call, as `hash_job_over` computes it.

@@ -3,7 +3,6 @@
 
 pub mod caller_blocks;
 pub mod fill;
-pub mod lane_threads;
 pub mod stack_wiping;
 pub mod theorems;
 pub mod workers;

@@ -2,7 +2,6 @@ pub mod Among
 pub mod Elsewhere
 pub mod Explicit
 pub mod HashEncoded
-pub mod HashJob
 pub mod HashRaw
 pub mod Plain
 pub mod VerifyEncoded

@@ -3,8 +3,6 @@
 //! every schedule of the machine's model can describe the answer.
 #![tactic(auto)]
 
-pub mod jobs;
-
 ghost use Rattle.std.specs.Prelude.{◌≡◌, ◌<◌, ◌^◌, IsUtf8, length};
 ghost use Rattle.argon2_schedule.specs.Answers.{
   IsTextLength,

@@ -1,6 +1,6 @@
 //! The memory of a hash: its slices, what its blocks refer to, its first blocks, and one that a caller provides.
 
-ghost use Rattle.std.specs.Prelude.{◌≡◌, ◌+◌, ◌*◌, ◌/◌, ◌^◌, [], ◌∷◌, length};
+ghost use Rattle.std.specs.Prelude.{◌≡◌, ◌+◌, ◌*◌, ◌/◌, ◌^◌, [], ◌∷◌};
 ghost use Rattle.argon2_blocks.specs.Standard.Word.{low_half};
 ghost use Rattle.argon2_standard.specs.Standard.Reference.{pick, reference_set, relative_position};
 ghost use Rattle.argon2_standard.specs.Standard.Setting.{Position, Setting};
@@ -12,16 +12,13 @@ use argon2_blocks::blake2b::{blake2b, hprime};
 use argon2_blocks::block::Block;
 use argon2_fill::caller_blocks::hash_over;
 use argon2_fill::fill::write_first_block;
-use argon2_fill::lane_threads::hash_job_over_by_threads;
-use argon2_memory::job::{Job, facts_of_context};
+use argon2_memory::job::Job;
 use argon2_memory::memory::{Memory, take_slices};
 use argon2_memory::segment::{pick, reference_set_column, reference_set_size};
 use argon2_standard::config::Config;
 use argon2_standard::context::Context;
-use std::marker::Sync;
 use std::process::Abort;
 use std::test::Fail;
-use std::thread::Threads;
 
 // ---- a memory and its slices
 
@@ -143,19 +140,6 @@ fn hashes_the_stated_inputs_first(rt: HostRuntime) -> Tested<()> {
 
 // ---- a hash over a caller-provided memory, whatever its contents
 
-fn hashed_by_threads<R: Threads + Sync>(
-    rt: &R,
-    context: &Context<'_>,
-    blocks: &mut [Block],
-) -> [u8; 32]
-    requires { length blocks.old ≡ context.now.memory_blocks }
-{
-    facts_of_context(context);
-    let mut out = [0; 32];
-    hash_job_over_by_threads(rt, &Job::new(context), blocks, &mut out);
-    out
-}
-
 #[test]
 fn hashes_over_blocks_that_hold_anything(rt: HostRuntime) -> Tested<()> {
     let alloc = rt.alloc();
@@ -170,7 +154,6 @@ fn hashes_over_blocks_that_hold_anything(rt: HostRuntime) -> Tested<()> {
         assert_eq!(rt; out.len(), context.config.hash_length as usize);
         hash_over(&context, &mut blocks[..], &mut out);
         assert_eq!(rt; hex::encode(alloc, out)?.as_str(), tag);
-        assert_eq!(rt; hashed_by_threads(&rt, &context, &mut blocks[..]), out);
     }
     Ok(())
 }

@@ -1,7 +1,7 @@
 use Rattle.std.proofs.Common.{◌≡◌, ℕ, ◌<◌, ◌≤◌, [], ◌∷◌}
 use Rattle.argon2_memory.specs.Views.Places.{HoldOthers, IsReadySlice, among, blocks_of_lane, places_of_slices}
 use Rattle.argon2_memory.specs.Views.Segments.{segment_at}
-use Rattle.argon2_fill.proofs.caller_blocks.InTurnSliceFilling.fill_slice.Given as goal
+use Rattle.argon2_fill.proofs.caller_blocks.fill_caller_slice.Given as goal
 
 abbrev pub invariant-loop-lane : goal.invariant-loop-lane
 invariant-loop-lane l = record {
