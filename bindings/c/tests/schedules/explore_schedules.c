@@ -1,6 +1,7 @@
 /* Runs a call of the compiled driver in every way in which it can go, each way in its own run. This
  * file replaces the system (platform.h), the heap, the proved calls, and the caller's progress callback: it
- * chooses what happens, and watches what the driver does. It tries each choice in all ways, depth first.
+ * chooses what happens, and watches what the driver does and which memory it accesses (accesses.c). It tries each
+ * choice in all ways, depth first.
  *
  *     explore_schedules LANES THREADS PASSES SWITCHES    prints how many runs there were, or the first fault with its
  *     choices
@@ -8,11 +9,14 @@
  * The model (crates/argon2_c/specs/Team.antt) must allow each move of a thread; otherwise the move is reported as a
  * fault. The last lines say how often each was made.
  *
- * Threads are run one at a time. Another may run before each part, wait and progress, and after each wake and the start
- * of a team, at most SWITCHES times. If a thread cannot go on, the caller's does, or else the first that can. */
+ * Threads are run one at a time. Another may run before each part, wait, progress and atomic access, and after each
+ * wake and the start of a team, at most SWITCHES times. If a thread cannot go on, the caller's does, or else the first
+ * that can. Where the memory comes from and whether a hash is verified changes nothing for the threads, so over the
+ * caller's memory and for a verdict one switch is enough. */
 #define _GNU_SOURCE
 #define PROVED_ARGON2_NULL_H /* (the driver's calls are those here) */
 #define PROVED_ARGON2_PASSWORD_H
+#include "accesses.h"
 #include "driver.h"
 #include <errno.h>
 #include <sanitizer/asan_interface.h>
@@ -86,7 +90,8 @@ static struct run {
     uint32_t begun, filled;   /* lanes, a bit for each */
     uint64_t stage, reported; /* slices that are filled, or are being filled, and those that were reported */
     bool is_finished, is_dirty, is_forked, is_caller_saved;
-    uint32_t switches; /* how often it switched threads without need */
+    uint32_t switches;          /* how often it switched threads without need */
+    bool has_failed_spuriously; /* an exchange did, spuriously */
     struct taken {
         void *at;
         size_t len;
@@ -247,8 +252,7 @@ static void look_at_moves(void)
         return;
     }
     move_workers(true);
-    const bool has_failed = call->is_over && run.code != PROVED_ARGON2_OK;
-    if (model.step != call->step && !has_failed) {
+    if (model.step != call->step && run.code == PROVED_ARGON2_OK) {
         make(Advances, is_in_step() && are_workers_through() && are_codes_zero());
         model.step++;
     }
@@ -351,15 +355,28 @@ void proved_driver_await(team *own, uint32_t number)
         go_on();
     }
     self->waited++;
-    if (number != 0 && !model.call->is_over) {
+    if (number != 0 && is_at_work() && !model.call->is_over) {
         make(Enters, model.entered[number]++ < model.woken[number]);
     }
 }
 
-/* Where a planted fault has another thread go on. */
-void switch_thread(void)
+void access_bytes(const void *at, size_t len)
+{
+    const char *const last = (const char *)at + len - 1;
+    must(!__asan_address_is_poisoned(at) && !__asan_address_is_poisoned(last), "memory that exists");
+}
+
+void access_atomically(const void *at, size_t len)
 {
     go_on();
+    access_bytes(at, len);
+}
+
+bool fails_spuriously(void)
+{
+    const bool fails_now = !run.has_failed_spuriously && choose(2) == 1;
+    run.has_failed_spuriously = run.has_failed_spuriously || fails_now;
+    return fails_now;
 }
 
 void proved_driver_end_team(team *own)
@@ -664,7 +681,7 @@ static uint64_t run_all(void)
 
 /* A kind of call, a bit each: large, over the caller's memory, a verdict in place of a hash, with progress, and by
  * threads in long parts. */
-static uint64_t run_kind(unsigned kind)
+static uint64_t run_kind(unsigned kind, uint32_t switches)
 {
     asked.is_large = kind & 1;
     asked.is_callers = kind >> 1 & 1;
@@ -674,6 +691,7 @@ static uint64_t run_kind(unsigned kind)
     if (asked.is_long && (!asked.is_large || asked.lanes == 1 || asked.threads == 1)) {
         return 0;
     }
+    asked.switches = switches > 1 && (asked.is_callers || asked.is_verdict) ? 1 : switches;
     asked.segment = asked.is_long ? LONG : asked.is_large ? (KIB + asked.lanes - 1) / asked.lanes : 2;
     job = (proved_argon2_job){{1}, PROVED_ARGON2_ID, 0x13, asked.lanes, asked.segment, asked.passes, TAG};
     return run_all();
@@ -688,9 +706,8 @@ int main(int count, char **words)
     asked.lanes = (uint32_t)atoi(words[1]);
     asked.threads = (uint32_t)atoi(words[2]);
     asked.passes = (uint32_t)atoi(words[3]);
-    asked.switches = (uint32_t)atoi(words[4]);
     for (unsigned kind = 0; kind < KINDS; kind++) {
-        runs += run_kind(kind);
+        runs += run_kind(kind, (uint32_t)atoi(words[4]));
     }
     printf("%llu runs\n", (unsigned long long)runs);
     for (enum move move = 0; move < ALL_MOVES; move++) {

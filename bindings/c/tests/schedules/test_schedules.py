@@ -1,8 +1,8 @@
 """Runs a call of the driver for C (bindings/c/src/proved_argon2_driver.c) in every way in which it can go, for some
 lanes, threads and passes, and counts the runs. Each request and each thread may be denied, each proved call may fail,
-and the callback may stop or fork. explore_schedules.c states what must hold in each run, and checks each move of a
-thread against the proved model (crates/argon2_c/specs/Team.antt). Then each fault of faults.txt is planted in the
-driver, and has to be found.
+and the callback may stop or fork. Another thread may run before each atomic access. explore_schedules.c states what
+must hold in each run, and checks each move of a thread against the proved model (crates/argon2_c/specs/Team.antt). Then
+each fault of faults.txt is planted in the driver, and has to be found.
 """
 
 import itertools
@@ -15,8 +15,11 @@ from running import TOP, ahead, rows
 
 HERE = Path(__file__).resolve().parent
 DRIVER = (TOP / 'bindings/c/src/proved_argon2_driver.c').read_text(encoding='utf-8')
-COMPILER = ('gcc', '-std=c11', '-O1', '-g', '-fsanitize=address,undefined', '-fno-sanitize-recover=all',
-            '-Wall', '-Wextra', '-Werror', '-I', TOP / 'bindings/c/include', '-I', TOP / 'bindings/c/src')
+COMPILER = ('gcc', '-std=c11', '-O1', '-g', '-fno-sanitize-recover=all', '-Wall', '-Wextra', '-Werror',
+            '-I', TOP / 'bindings/c/include', '-I', TOP / 'bindings/c/src')
+SANITIZED = '-fsanitize=address,undefined'
+# The driver calls accesses.c for each access of memory.
+WATCHED = '-fsanitize=thread,undefined', '--param=tsan-instrument-func-entry-exit=0'
 WRAPPED = [f'-Wl,--wrap={name}' for name in ('calloc', 'free')]
 # Lanes, threads and passes.
 CASES = list(itertools.product((1, 2, 3), (1, 2, 3), (1, 2)))
@@ -24,11 +27,11 @@ CASES = list(itertools.product((1, 2, 3), (1, 2, 3), (1, 2)))
 SWITCHES = {(1, 1): 0, (1, 2): 0, (2, 1): 2, (2, 2): 2, (3, 1): 2, (3, 2): 1}
 # By lanes and threads, how many runs there are over all kinds of call, of one pass and of two.
 RUNS = {(1, 1): (128, 192), (1, 2): (128, 192), (1, 3): (128, 192),
-        (2, 1): (168, 264), (2, 2): (70288, 400364), (2, 3): (70288, 28100),
-        (3, 1): (208, 336), (3, 2): (120720, 722080), (3, 3): (1030920, 152944)}
+        (2, 1): (168, 264), (2, 2): (60633, 333532), (2, 3): (60633, 44708),
+        (3, 1): (208, 336), (3, 2): (91134, 521118), (3, 3): (774744, 257040)}
 # By each fault's name: a piece of the driver, and what takes its place. @ separates the lines of a piece.
 FAULTS = {name: [piece.replace('@', '\n') for piece in pieces] for name, *pieces in rows(HERE / 'faults.txt')}
-assert len(FAULTS) == 40
+assert len(FAULTS) == 42
 
 
 def moves_of(spec):
@@ -38,8 +41,8 @@ def moves_of(spec):
     return re.findall(r'^ +([A-Z]\w*) :', moves, re.MULTILINE)
 
 
-def compiled(source, made):
-    subprocess.run([*COMPILER, '-c', source, '-o', made], check=True)
+def compiled(source, made, *flags):
+    subprocess.run([*COMPILER, *flags, '-c', source, '-o', made], check=True)
     return made
 
 
@@ -47,14 +50,15 @@ def compiled(source, made):
 def program_over(tmp_path_factory):
     """A function that builds the program over a driver with some text, and returns the program's path."""
     folder = tmp_path_factory.mktemp('made')
-    rest, numbers = compiled(HERE / 'explore_schedules.c', folder / 'explore_schedules.o'), itertools.count()
+    rest = [compiled(HERE / f'{name}.c', folder / f'{name}.o', SANITIZED) for name in ('explore_schedules', 'accesses')]
+    numbers = itertools.count()
 
     def over(text):
         made = folder / f'driver{next(numbers)}'
         source = made.with_suffix('.c')
         source.write_text(text, encoding='utf-8')
-        driver = compiled(source, made.with_suffix('.o'))
-        subprocess.run([*COMPILER, rest, driver, *WRAPPED, '-o', made], check=True)
+        driver = compiled(source, made.with_suffix('.o'), *WATCHED)
+        subprocess.run([*COMPILER, SANITIZED, *rest, driver, *WRAPPED, '-o', made], check=True)
         return made
     return over
 
@@ -103,5 +107,5 @@ def test_each_fault_is_found(found, name):
     assert DRIVER.count(FAULTS[name][0]) == 1, 'it cannot be planted'
     said = found(name)
     assert said, 'no run finds it'
-    move, is_move, _ = name.partition(': ')
-    assert not is_move or said.startswith(f'violated: {move};'), said
+    violated, is_named, _ = name.partition(': ')
+    assert not is_named or said.startswith(f'violated: {violated};'), said
