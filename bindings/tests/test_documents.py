@@ -127,7 +127,7 @@ def test_the_service_in_python(installed):
 # ---- the manual pages and the help
 
 HEADERS = [(TOP / f"bindings/c/include/proved_argon2{name}.h").read_text()
-           for name in ("", "_password", "_jobs", "_threads")]
+           for name in ("", "_password", "_jobs", "_threads", "_service")]
 HELP = (TOP / "bindings/shell/help.txt").read_text()
 MAN, INCLUDED = TOP / "bindings/man", sorted((TOP / "bindings/c/include").glob("*.h"))
 PAGES = {1: (MAN / "proved-argon2.1.in").read_text(),

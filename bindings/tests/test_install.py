@@ -50,6 +50,13 @@ def test_install_writes_exactly_the_listed_files(installed):
     assert len(CALLS) > 40 and files_in(installed) == EXPECTED
 
 
+@pytest.mark.parametrize("compiler", ["gcc -std=c99 -x c", "g++ -std=c++98 -x c++"])
+@pytest.mark.parametrize("header", [header.name for header in HEADERS])
+def test_each_header_can_be_included_first(installed, header, compiler):
+    code = f"#include <{header}>\nproved_argon2_job a;\nproved_argon2_options b;\nproved_argon2_tuning c;\n"
+    run(*compiler.split(), "-Wall", "-Wextra", "-Werror", "-fsyntax-only", "-I", installed / "include", "-", input=code)
+
+
 def test_pkg_config_knows_the_version_and_the_address(installed):
     said = run("pkg-config", "--print-provides", "proved_argon2", env={"PKG_CONFIG_PATH": installed / "lib/pkgconfig"})
     address = re.search("^Address: (.*)", (TOP / "PROJECT").read_text(), re.M)[1]

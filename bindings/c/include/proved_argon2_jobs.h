@@ -36,10 +36,11 @@
  * whoever reads it can test a password guess with one BLAKE2b. Guesses can be tested against the blocks, too.
  * proved_argon2_job_run (proved_argon2_threads.h) provides memory and threads for a job, and clears memory.
  */
+/* (in front of the guard, so that any of these headers can be included first) */
+#include "proved_argon2.h"
+
 #ifndef PROVED_ARGON2_JOBS_H
 #define PROVED_ARGON2_JOBS_H
-
-#include "proved_argon2.h"
 
 #ifdef __cplusplus
 extern "C" {

@@ -15,10 +15,11 @@
  * - A forked child can use the handle too. It has its own copies of the buffers that were idle. It never uses the copy
  *   of a buffer that another thread of its parent was using.
  */
+/* (in front of the guard, so that any of these headers can be included first) */
+#include "proved_argon2.h"
+
 #ifndef PROVED_ARGON2_SERVICE_H
 #define PROVED_ARGON2_SERVICE_H
-
-#include "proved_argon2_threads.h"
 
 #ifdef __cplusplus
 extern "C" {

@@ -11,10 +11,11 @@
  * are overwritten. On Linux, core dumps leave out the blocks while a call runs, if the call allocated them itself
  * and they are 2 MiB or more.
  */
+/* (in front of the guard, so that any of these headers can be included first) */
+#include "proved_argon2.h"
+
 #ifndef PROVED_ARGON2_THREADS_H
 #define PROVED_ARGON2_THREADS_H
-
-#include "proved_argon2.h"
 
 #ifdef __cplusplus
 extern "C" {
