@@ -156,21 +156,6 @@ static void check_denied_unmapping(void)
 
 /* ---- how much memory the system needs for a hash */
 
-/* This process's resident bytes, as the system counts them page by page. */
-static size_t resident(void)
-{
-    FILE *const sums = fopen("/proc/self/smaps_rollup", "r");
-    char line[256];
-    unsigned long found = 0;
-    while (sums != NULL && found == 0 && fgets(line, sizeof line, sums) != NULL) {
-        sscanf(line, "Rss: %lu kB", &found);
-    }
-    if (sums != NULL) {
-        fclose(sums);
-    }
-    return (size_t)found * 1024;
-}
-
 static int measures(void *arg, uint64_t done, uint64_t all)
 {
     *(size_t *)arg = resident();

@@ -1,5 +1,5 @@
 /* For Windows. Makes the driver's calls in new threads with stacks of PROVED_ARGON2_STACK_SIZE bytes, of which one page
- * is committed at first; measures the stack that they use; and checks that salts differ. */
+ * is committed at first; measures the stack that they use; and checks that salts differ and that buffers are kept. */
 #define WIN32_LEAN_AND_MEAN
 #include "checks.h"
 
@@ -40,6 +40,15 @@ static uint32_t hash_encoded(void)
 static uint32_t verify_encoded(void)
 {
     return proved_argon2_verify_encoded(text, strlen(text), SOME, SOME, SOME);
+}
+
+static proved_argon2_buffers *buffers;
+
+static uint32_t hash_in_kept(void)
+{
+    proved_argon2_options with = PROVED_ARGON2_OPTIONS;
+    with.buffers = buffers;
+    return proved_argon2_hash_raw_with(&with, INPUTS, &settings, tag, TAG);
 }
 
 /* ---- stacks */
@@ -115,6 +124,20 @@ static void check_salts(void)
     check(proved_argon2_password_verify(text, "passwort", 8) == PROVED_ARGON2_MISMATCH, "another one does not");
 }
 
+/* A kept buffer is freed once it has been idle for ten seconds, by the system's clock. */
+static void check_kept(void)
+{
+    check(proved_argon2_buffers_new(&settings, 1, &buffers) == PROVED_ARGON2_OK
+            && proved_argon2_buffers_free_idle(buffers) == 0,
+        "a handle of kept buffers");
+    check_call(hash_in_kept, "hash_raw_with");
+    const uint32_t left = proved_argon2_buffers_free_idle(buffers);
+    check(verify_raw() == PROVED_ARGON2_OK && left > 5000 && left <= 10000, "it is right, and the buffer idle");
+    Sleep(left + 100);
+    check(proved_argon2_buffers_free_idle(buffers) == 0, "the buffer is freed ten seconds later");
+    proved_argon2_buffers_free(buffers);
+}
+
 int main(void)
 {
     check_call(hash_raw, "hash_raw");
@@ -123,5 +146,6 @@ int main(void)
     check_call(hash_encoded, "hash_encoded");
     check_call(verify_encoded, "verify_encoded");
     check_salts();
-    return finish(13);
+    check_kept();
+    return finish(18);
 }
