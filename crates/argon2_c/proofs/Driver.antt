@@ -1,15 +1,19 @@
 -- The team of the C driver makes a run of the steps.
-use Rattle.std.proofs.Common.{◌≡◌, ℕ, zero, suc, ◌-◌, ◌*◌, ◌%◌, ◌<◌, ◌≤◌, List, length, Ok, Err, refl, sym, ◌∙◌, subst, ap, arith, mod-lt}
+use Rattle.std.proofs.Common.{◌≡◌, ℕ, zero, suc, ◌-◌, ◌*◌, ◌%◌, ◌<◌, ◌≤◌, true, List, length, Ok, Err, refl, sym, ◌∙◌, subst, ap, arith, mod-lt}
 use Rattle.argon2_standard.specs.Standard.Tag.{tag_of}
-use Rattle.argon2_c.specs.Jobs.{setting_of_job}
+use Rattle.argon2_standard.specs.Standard.Prehash.{setting_of}
+use Rattle.argon2_c.specs.Jobs.{job_of, setting_of_job}
 use Rattle.argon2_c.specs.Steps.{Finishes, Verifies}
 use Rattle.argon2_c.specs.Runs.{IsMade, IsRun, slice_at}
 use Rattle.argon2_c.specs.Team.{IsApart, IsStep, Team}
-use Rattle.argon2_c.specs.Driver.{EveryTeamGivesTheTag, EveryTeamGivesTheVerdict, NoThreadWorksAfterTheEnd, EveryCallReturns, IsFilled, KeepsSlices, FillsSegment, segment_in_step, work_of}
+use Rattle.argon2_c.specs.Driver.{EveryTeamGivesTheTag, EveryTeamGivesTheVerdict, NoThreadWorksAfterTheEnd, EveryJobCanBeFilled, EveryCallReturns, IsFilled, KeepsSlices, FillsSegment, segment_in_step, work_of}
 use Rattle.argon2_c.specs.declared.jobs.CallerJob.{CallerJob}
 use Rattle.argon2_c.specs.declared.errors.CallError.TheVariants.{Mismatch}
+use Rattle.argon2_c.proofs.JobNumbers.{accepted_hash, recovered, setting_that_fits}
 use Rattle.argon2_c.proofs.Runs.{made_match, made_mismatch, made_tag, same_at}
 use Rattle.argon2_c.proofs.Team.{every_step_is_whole, nobody_works_after_the_end}
+use Rattle.argon2_c.proofs.Finishing.{a_team_can_finish}
+use Rattle.argon2_c.proofs.Fillings.{job_filling, memory}
 use Rattle.argon2_c.proofs.Threads.{all_threads_end, some_thread_can_go_on, threads_are_a_team}
 use Rattle.argon2_c.proofs.Endings.{every_run_ends}
 
@@ -102,6 +106,30 @@ every_team_gives_the_verdict pwd salt config len job tasks s from filled =
 pub no_thread_works_after_the_end : NoThreadWorksAfterTheEnd
 no_thread_works_after_the_end job tasks some =
     nobody_works_after_the_end (work_of job tasks) (apart job tasks some)
+
+pub every_job_can_be_filled : EveryJobCanBeFilled
+every_job_can_be_filled pwd salt config len job tasks from some =
+    let s = setting_of pwd salt config len in
+    let Fills : CallerJob → Type 0 = λ j. (start : List (List (List ℕ))) → length start ≡ 4
+    → ((k : ℕ) → k < 4 → length (slice_at start k) ≡ j.lanes * j.segment_length)
+    → (t : Team (work_of j tasks)) × IsFilled j tasks t × (t.is_over ≡ true) × (t.before 0 ≡ start) in
+    subst Fills (sym from.made) (λ start four long.
+    let good = setting_that_fits pwd salt config len from.accepted from.few_passes from.little_memory in
+    let is = recovered s len good (accepted_hash config (length pwd) (length salt) len from.accepted) in
+    let end = a_team_can_finish (work_of (job_of s len) tasks) (apart (job_of s len) tasks some) (memory s good start)
+    (job_filling s good len tasks is start (record { four = four; long = long })) in
+    let same : end.0.before 0 ≡ start = end.4 in (
+      end.0,
+      record {
+        some = some;
+        reached = end.1;
+        four = ap length same ∙ four;
+        long = λ k few. ap (λ (m : List (List (List ℕ))). length (slice_at m k)) same ∙ long k few;
+        all = end.2;
+      },
+      end.3,
+      same,
+    ))
 
 pub every_call_returns : EveryCallReturns
 every_call_returns job tasks members is_long some =

@@ -4,4 +4,6 @@ pub mod Team
 pub mod Sums
 pub mod Threads
 pub mod Endings
+pub mod Finishing
+pub mod Fillings
 pub mod Driver

@@ -1,6 +1,6 @@
 -- The team of the C driver at work on a job: step 0 begins all lanes, and step n + 1 fills slice number n, counted over all
 -- passes.
-use Rattle.std.specs.Prelude.{◌≡◌, ℕ, zero, suc, ◌*◌, ◌%◌, ◌<◌, Bool, List, length, Ok, Err}
+use Rattle.std.specs.Prelude.{◌≡◌, ℕ, zero, suc, ◌*◌, ◌%◌, ◌<◌, Bool, true, List, length, Ok, Err}
 use Rattle.std.specs.List.{remove}
 use Rattle.argon2_standard.specs.declared.config.Config.{Config}
 use Rattle.argon2_standard.specs.Standard.Tag.{tag_of}
@@ -70,6 +70,13 @@ EveryTeamGivesTheVerdict = (pwd salt : List ℕ) (config : Config) (len : ℕ) (
 -- Once a call is over, also after an error, no thread works on any lane.
 abbrev pub NoThreadWorksAfterTheEnd : Type 0
 NoThreadWorksAfterTheEnd = (job : CallerJob) (tasks : ℕ) → 0 < tasks → NobodyWorksAfterTheEnd (work_of job tasks)
+
+-- For each job and number of workers, a team can start with any four slices of the job's length, complete all steps, and
+-- stop.
+abbrev pub EveryJobCanBeFilled : Type 0
+EveryJobCanBeFilled = (pwd salt : List ℕ) (config : Config) (len : ℕ) (job : CallerJob) (tasks : ℕ) → IsMade pwd salt config len job → 0 < tasks
+    → (start : List (List (List ℕ))) → length start ≡ 4 → ((k : ℕ) → k < 4 → length (slice_at start k) ≡ job.lanes * job.segment_length)
+    → (s : Team (work_of job tasks)) × IsFilled job tasks s × (s.is_over ≡ true) × (s.before 0 ≡ start)
 
 -- In the finer model: the threads make moves of a team. Until the call has returned, some thread can go on, and no run
 -- is infinite unless a proved call writes for ever. When the call has returned, all other threads have ended.

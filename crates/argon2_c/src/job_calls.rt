@@ -8,7 +8,7 @@ ghost use Rattle.argon2_c.specs.Jobs.{MakesJob, MakesStoredJob, WritesTagText, s
 ghost use Rattle.argon2_c.specs.Steps.{Begins, Fills, Finishes, Verifies};
 ghost use Rattle.argon2_c.specs.CallerBlocks.{HashesJob, JudgesJob};
 ghost use Rattle.argon2_c.specs.Driver.{EveryTeamGivesTheTag, EveryTeamGivesTheVerdict};
-ghost use Rattle.argon2_c.specs.Driver.{NoThreadWorksAfterTheEnd, EveryCallReturns};
+ghost use Rattle.argon2_c.specs.Driver.{NoThreadWorksAfterTheEnd, EveryJobCanBeFilled, EveryCallReturns};
 ghost use Rattle.argon2_c.specs.ErrorTable.{IsCodeOf};
 ghost use Rattle.argon2_c.specs.Runs.{EveryOrderOfTurnsIsARun, EveryRunGivesTheTag, EveryRunGivesTheVerdict, OneCallGivesTheTag, OneCallGivesTheVerdict};
 ghost use Rattle.argon2_c.specs.Settings.{config_of};
@@ -170,8 +170,9 @@ pub extern "C" fn proved_argon2_encode(
 ///   the tag, and `verify` says whether a hash is the tag. The calls that take all steps in one
 ///   order return the same.
 /// - The same is true if threads of the driver's model take the steps (`team`, `team_verdict`).
-///   Once a call is over, no thread works (`team_end`). The threads never all wait, and a call ends
-///   unless a proved call in it writes for ever (`team_returns`).
+///   Such threads can take all steps of each job (`team_fills`). Once a call is over, no thread
+///   works (`team_end`). The threads never all wait, and a call ends unless a proved call in it
+///   writes for ever (`team_returns`).
 pub fn any_order_of_steps()
     ensures turns { EveryOrderOfTurnsIsARun }
     ensures tag { EveryRunGivesTheTag }
@@ -181,5 +182,6 @@ pub fn any_order_of_steps()
     ensures team { EveryTeamGivesTheTag }
     ensures team_verdict { EveryTeamGivesTheVerdict }
     ensures team_end { NoThreadWorksAfterTheEnd }
+    ensures team_fills { EveryJobCanBeFilled }
     ensures team_returns { EveryCallReturns }
 {}

@@ -7,7 +7,7 @@ use Rattle.argon2_c.specs.Runs.{IsMade, IsRun, slice_at}
 use Rattle.argon2_c.specs.declared.jobs.CallerJob.{CallerJob}
 use Rattle.argon2_c.specs.declared.errors.CallError.TheVariants.{Mismatch}
 use Rattle.argon2_c.proofs.Runs.{called_match, called_mismatch, called_tag, made_match, made_mismatch, made_tag, run_of_turns}
-use Rattle.argon2_c.proofs.Driver.{every_team_gives_the_tag, every_team_gives_the_verdict, no_thread_works_after_the_end, every_call_returns}
+use Rattle.argon2_c.proofs.Driver.{every_team_gives_the_tag, every_team_gives_the_verdict, no_thread_works_after_the_end, every_job_can_be_filled, every_call_returns}
 use Rattle.argon2_c.proofs.job_calls.any_order_of_steps.Goals as goal
 
 pub returns-clause-turns : goal.returns-clause-turns
@@ -49,6 +49,9 @@ returns-clause-team_verdict c = every_team_gives_the_verdict
 
 pub returns-clause-team_end : goal.returns-clause-team_end
 returns-clause-team_end c = no_thread_works_after_the_end
+
+pub returns-clause-team_fills : goal.returns-clause-team_fills
+returns-clause-team_fills c = every_job_can_be_filled
 
 pub returns-clause-team_returns : goal.returns-clause-team_returns
 returns-clause-team_returns c = every_call_returns
