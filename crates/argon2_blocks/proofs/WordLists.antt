@@ -1,7 +1,7 @@
 -- Lists of words: their bytes, and their XOR.
 use Rattle.std.proofs.Common.{◌≡◌, ℕ, zero, suc, ◌+◌, ◌-◌, ◌*◌, ◌^◌, ◌<◌, ◌≤◌, List, [], ◌∷◌, ◌++◌, length, take, drop, get_or, set, map, refl, sym}
 use Rattle.std.proofs.Common.{ap, ◌∙◌, arith, length-append, length-drop, lit<, bit_xor, add-one}
-use Rattle.std.proofs.lemmas.List.{append-nil, take_all, take_more, take_more_set, drop-drop, length-take-le, get_or-drop, get_or-take}
+use Rattle.std.proofs.lemmas.List.{append-nil, take_all, take_more, take_more_set, drop-drop, length-take-le, get_or-drop}
 use Rattle.std.proofs.lemmas.List.{get_or_default, same_lists, drop_all}
 use Rattle.std.proofs.lemmas.List.Concat.{flat_map-append}
 use Rattle.std.proofs.lemmas.List.FromFn.{length-map-range_with_len, get_or-map-range_with_len, map-range_with_len_more}
@@ -24,23 +24,6 @@ use Rattle.argon2_blocks.specs.Standard.Block.{xor}
 -- the slice of bytes from `at` to at + 8 is the first eight bytes after the first `at` are dropped
 slice_range_8 : (bytes : List ℕ) (at : ℕ) → slice_range bytes at (at + 8) ≡ take 8 (drop at bytes)
 slice_range_8 bytes at = let e : at + 8 - at ≡ 8 = omega arith in rw e refl
-
--- for i below 8, byte i of the slice from `at` to at + 8 is byte at + i
-byte_at : (bytes : List ℕ) (at i : ℕ) → i < 8 → get_or (slice_range bytes at (at + 8)) i 0 ≡ get_or bytes (at + i) 0
-byte_at bytes at i lt = rw (slice_range_8 bytes at) (get_or-take 8 (drop at bytes) i 0 lt ∙ get_or-drop at bytes i 0)
-
--- the word of bytes `at` to at + 7, listed one by one, is the word of the slice from `at` to at + 8
-pub word_at : (bytes : List ℕ) (at word : ℕ) → word ≡ from_le_bytes w64 (get_or bytes at 0 ∷ get_or bytes (at + 1) 0 ∷ get_or bytes (at + 2) 0
-    ∷ get_or bytes (at + 3) 0 ∷ get_or bytes (at + 4) 0 ∷ get_or bytes (at + 5) 0 ∷ get_or bytes (at + 6) 0 ∷ get_or bytes (at + 7) 0 ∷ [])
-    → word ≡ from_le_bytes w64 (slice_range bytes at (at + 8))
-word_at bytes at word e =
-    let b = byte_at bytes at in
-    let first : at + 0 ≡ at = omega arith in
-    rw (b 0 (lit< tt), b 1 (lit< tt), b 2 (lit< tt), b 3 (lit< tt), b 4 (lit< tt), b 5 (lit< tt), b 6 (lit< tt), b 7 (lit< tt), first) e
-
--- if a word's eight bytes from `at` on are within n bytes, the index at + i of each is below n
-pub byte_within : (at n i : ℕ) → at + 8 ≤ n → i < 8 → at + i < n
-byte_within at n i within h = omega arith
 
 -- ---- the steps of the loops that read and write words
 

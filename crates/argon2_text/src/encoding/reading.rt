@@ -199,27 +199,14 @@ fn strip<'a>(text: &'a [u8], front: &[u8]) -> Option<&'a [u8]>
     Some(&text[front.len()..])
 }
 
-/// What is before the first `mark`, and what is after it. It looks at no byte behind the mark.
+/// What is before the first `mark`, and what is after it. It looks at no byte behind the mark; a
+/// search of many bytes at a time would.
 fn cut(text: &[u8], mark: u8) -> Option<(&[u8], &[u8])>
     ensures { option_map two_texts result ≡ cut mark text.now }
 {
-    let Some(at) = first(text, mark) else {
-        return None;
-    };
-    Some((&text[..at], &text[at + 1..]))
-}
-
-/// Where the first `mark` is. This search looks at no byte behind the mark; a search of many bytes
-/// at a time would.
-fn first(bytes: &[u8], mark: u8) -> Option<usize>
-    ensures { MatchOption result
-        ((i : ℕ) → i < length bytes.now → slice_index bytes.now i ≢ mark)
-        (λ at. (at < length bytes.now) × (slice_index bytes.now at ≡ mark)
-        × ((i : ℕ) → i < at → slice_index bytes.now i ≢ mark)) }
-{
-    for at in 0..bytes.len() {
-        if bytes[at] == mark {
-            return Some(at);
+    for at in 0..text.len() {
+        if text[at] == mark {
+            return Some((&text[..at], &text[at + 1..]));
         }
     }
     None

@@ -41,7 +41,7 @@ use Rattle.std.proofs.raw_atomic.Walks.{leaves, proved}
 use Rattle.std.proofs.VecSteps.Shapes.{after}
 use Rattle.argon2_blocks.specs.contracts.block.Block.{the_row}
 use Rattle.argon2_blocks.specs.contracts.block.parts.lend_parts as F
-use Rattle.argon2_blocks.specs.contracts.block.parts.lend_parts.Key.{name as own_name}
+use Rattle.argon2_blocks.proofs.block.parts.lend_parts.Symbol.{name as own_name}
 use Rattle.argon2_blocks.proofs.block.parts.lend_parts.Statement.{statement}
 use Rattle.argon2_blocks.proofs.block.parts.lend_parts.Code as code
 
