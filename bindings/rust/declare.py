@@ -13,10 +13,11 @@ CALL = re.compile(
 ARGUMENT = re.compile(r"(const )?(\w+) (\**)(\w+)(?:\[\w+\])?")
 TYPES = {"void": "c_void", "char": "u8", "const char *": "*const u8", "uint8_t": "u8", "uint32_t": "u32",
          "uint64_t": "u64", "size_t": "usize", "proved_argon2_settings": "Settings", "proved_argon2_stored": "Stored",
-         "proved_argon2_limits": "Limits", "proved_argon2_options": "Options"}
+         "proved_argon2_limits": "Limits", "proved_argon2_options": "Options", "proved_argon2_tuning": "Tuning",
+         "proved_argon2_buffers": "c_void"}
 HEAD = """//! The calls of the C library, as its headers declare them: made by `declare.py`.
 
-use super::{Limits, Options, Settings, Stored};
+use super::{Limits, Options, Settings, Stored, Tuning};
 use std::ffi::c_void;
 
 #[allow(dead_code)] // some are called by tests alone

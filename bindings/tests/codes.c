@@ -28,7 +28,7 @@ enum { COMPUTING, JUDGING, TELLING, KINDS };
 static char passed[KINDS][400];
 
 /* The last call with options, which must have this version's size: how many threads it asked for; how many bytes of
- * memory it was passed, or -1; and what its progress callback returned, or -1 without a callback. */
+ * memory, or of each kept buffer, it was passed, or -1; and what its progress callback returned, or -1 without one. */
 static uint32_t threads;
 static int64_t memory_len, progress_result;
 
@@ -58,6 +58,28 @@ const char *seen(void)
     return text;
 }
 
+/* Kept buffers, of which only the length is seen. */
+typedef struct proved_argon2_buffers {
+    int64_t len;
+} buffers;
+
+uint32_t proved_argon2_buffers_new(const proved_argon2_settings *settings, uint32_t most, buffers **made)
+{
+    *made = most > 0 ? calloc(1, sizeof **made) : NULL;
+    if (*made != NULL) (*made)->len = (int64_t)proved_argon2_memory_len(settings);
+    return shortage;
+}
+
+uint32_t proved_argon2_buffers_free_idle(buffers *of)
+{
+    return of == NULL;
+}
+
+void proved_argon2_buffers_free(buffers *of)
+{
+    free(of);
+}
+
 static void take(const proved_argon2_options *with)
 {
     progress_result = with->progress == NULL ? -1 : with->progress(with->arg, 1, 12);
@@ -65,6 +87,7 @@ static void take(const proved_argon2_options *with)
     memory_len = with->memory != NULL && (uintptr_t)with->memory % 8 == 0 ? (int64_t)with->memory_len
         : with->memory != NULL || with->memory_len != 0                   ? INT64_MIN
                                                                           : -1;
+    if (with->memory == NULL && with->buffers != NULL) memory_len = with->buffers->len;
 }
 
 uint32_t proved_argon2_check(
@@ -110,6 +133,23 @@ uint32_t proved_argon2_verify_encoded_with(
     take(with);
     snprintf(passed[COMPUTING], sizeof *passed, "text %.*s %.*s %.*s %.*s %u %u %u %llu", SHOWN(text), SHOWN(pwd),
         SHOWN(secret), SHOWN(ad), limits->mem_cost, limits->time_cost, limits->lanes, (unsigned long long)limits->work);
+    return answer;
+}
+
+uint32_t proved_argon2_password_verify_unknown(
+    const proved_argon2_options *with, const proved_argon2_settings *settings, PWD, PIECE(secret))
+{
+    take(with);
+    snprintf(passed[COMPUTING], sizeof *passed, "unknown %.*s %.*s " SETTINGS, SHOWN(pwd), SHOWN(secret),
+        EACH(settings));
+    return answer;
+}
+
+uint32_t proved_argon2_tune(const proved_argon2_options *with, const proved_argon2_settings *most, uint64_t nanoseconds,
+    proved_argon2_tuning *tuning)
+{
+    take(with);
+    *tuning = (proved_argon2_tuning){*most, nanoseconds};
     return answer;
 }
 

@@ -8,6 +8,7 @@ use std::fmt::Debug;
 use std::ops::ControlFlow::{Break, Continue};
 use std::os::raw::c_char;
 use std::panic::{catch_unwind, set_hook, AssertUnwindSafe};
+use std::time::Duration;
 
 extern "C" {
     fn set_answers(check: u32, then: u32, read: u32, memory: u32, kib_size: u32);
@@ -51,6 +52,10 @@ fn call(name: &str, how: &str, memory: &mut Memory) -> Box<dyn Debug> {
         ("verify_encoded_within", "over") => Box::new(verify_encoded_within_in(memory, TEXT, WORD, KEY, DATA, &LIMITS)),
         ("verify_unknown", "alone") => Box::new(verify_unknown(WORD, &CONFIG)),
         ("verify_unknown", "over") => Box::new(Run::new().over(memory).verify_unknown(WORD, &CONFIG)),
+        ("tune", _) => {
+            let found = tune(Duration::from_nanos(77), &CONFIG);
+            Box::new(found.map(|found| found.map(|found| (found.config == CONFIG, found.time))))
+        }
         ("needs_rehash", _) => Box::new(needs_rehash(TEXT, &CONFIG)),
         ("read", _) => Box::new(read(TEXT)),
         ("encoded_len", _) => Box::new(encoded_len(Variant::Argon2d, 64, 3, 4, 9, 5)),
@@ -68,9 +73,10 @@ fn call(name: &str, how: &str, memory: &mut Memory) -> Box<dyn Debug> {
     }
 }
 
-/// A run without a progress callback, or with one that lets the call go on, stops it, or panics.
+/// A run of a place, or one without a progress callback, or with one that lets the call go on, stops it, or panics.
 fn run<'a>(how: &str, memory: &'a mut Memory) -> Run<'a> {
     match how {
+        "line" => Box::leak(Box::new(Line::of(&CONFIG, 1 << 30).wait().unwrap())).run(),
         "run" => Run::new(),
         "tells" => Run::new().with_progress(|done, all| if (done, all) == (1, 12) { Continue(()) } else { Break(()) }),
         "stops" => Run::new().with_progress(|_, _| Break(())).over(memory),

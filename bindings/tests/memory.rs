@@ -1,6 +1,7 @@
 //! The buffers that the crate for Rust keeps from call to call, what calls leave of a password, and the buffers of a
-//! `Line`. The linker gives this program the library's call that allocates a buffer (`--wrap`), and the system's call
-//! that starts a thread, which it counts and can deny. codes.rs tests when a call allocates a buffer.
+//! `Line`. The linker gives this program the library's calls that allocate a buffer, or the handle of kept buffers
+//! (`--wrap`), and the system's call that starts a thread. It counts some of these, and can deny them. codes.rs tests
+//! when a call allocates a buffer.
 
 use argon2::password_hash::{PasswordHasher, PasswordVerifier};
 use argon2::{
@@ -30,6 +31,7 @@ static ID: AtomicI32 = AtomicI32::new(1);
 extern "C" {
     fn __real_pthread_create(thread: usize, attributes: usize, start: usize, argument: usize) -> i32;
     fn __real_proved_argon2_memory_new(settings: usize, memory: &mut usize, size: &mut usize) -> u32;
+    fn __real_proved_argon2_buffers_new(settings: usize, most: u32, buffers: &mut usize) -> u32;
     fn fork() -> i32;
     fn _Fork() -> i32;
     fn waitpid(child: i32, status: &mut i32, options: i32) -> i32;
@@ -45,6 +47,15 @@ unsafe extern "C" fn __wrap_proved_argon2_memory_new(settings: usize, memory: &m
     let number = __real_proved_argon2_memory_new(settings, memory, size);
     PLACE.store(*memory, SeqCst);
     number
+}
+
+#[no_mangle]
+unsafe extern "C" fn __wrap_proved_argon2_buffers_new(settings: usize, most: u32, buffers: &mut usize) -> u32 {
+    if IS_DENIED.load(SeqCst) {
+        OUT_OF_MEMORY
+    } else {
+        __real_proved_argon2_buffers_new(settings, most, buffers)
+    }
 }
 
 #[no_mangle]
@@ -165,7 +176,7 @@ fn count(word: &[u8]) -> usize {
 /// the last half of the password is searched.)
 fn no_copy_of_a_password_is_left() {
     let pwd: Vec<u8> = (0..64).map(|index: u16| (33 + index * 7 % 90) as u8).collect();
-    let (mut memory, line) = (Memory::new(), Line::new(1, 0));
+    let (mut memory, line) = (Memory::new(), Line::of(&settings(1024, 4, MODES[0]), 0));
     for mode in MODES {
         let config = settings(1024, 4, mode);
         let text = hash_encoded(&pwd, SALT, &config).unwrap();
@@ -215,53 +226,38 @@ fn resident() -> usize {
     line.split_whitespace().nth(1).unwrap().parse::<usize>().unwrap() << 10
 }
 
-/// A buffer of a line is cleared after each hash, serves the next one, and is freed once it is idle for ten seconds.
-fn a_line_keeps_a_cleared_buffer_for_ten_seconds() {
-    let (line, before, used) = (Line::new(2, 0), allocations(), resident());
-    let size = 19 << 20;
+/// A line keeps a buffer until it is idle for ten seconds.
+fn a_line_keeps_a_buffer_for_ten_seconds() {
+    let (line, used, size, begun) = (Line::new(2, 0), resident(), 19 << 20, Instant::now());
     hash_in(&line);
-    let begun = Instant::now();
-    assert_eq!(allocations(), before + 1);
-    let buffer = unsafe { std::slice::from_raw_parts(PLACE.load(SeqCst) as *const u8, size) };
-    assert!(buffer.iter().all(|byte| *byte == 0));
     assert!(resident() >= used + size * 9 / 10);
-    hash_in(&line);
-    assert_eq!(allocations(), before + 1);
     while resident() >= used + size / 2 {
         assert!(begun.elapsed() < Duration::from_secs(60));
         thread::sleep(Duration::from_millis(100));
     }
     assert!(begun.elapsed() >= Duration::from_secs(10), "{:?}", begun.elapsed());
     hash_in(&line);
-    assert_eq!(allocations(), before + 2);
 }
 
-/// If its buffer is denied, a call of a place allocates its own memory, and the next call wants a buffer again.
-fn a_place_whose_buffer_is_denied_computes_without_one() {
-    let (line, before) = (Line::new(1, 0), allocations());
+/// A line for which the system denies the handle of its buffers computes without any.
+fn a_line_whose_buffers_are_denied_computes_without_them() {
     IS_DENIED.store(true, SeqCst);
-    hash_in(&line);
-    hash_in(&line);
+    let line = Line::new(1, 0);
     IS_DENIED.store(false, SeqCst);
     hash_in(&line);
-    assert_eq!(allocations(), before + 3);
-    hash_in(&line);
-    assert_eq!(allocations(), before + 3);
     let rejected = Config { time_cost: 0, ..Config::default() };
     assert_eq!(line.wait().unwrap().run().hash_raw(PWD, SALT, &rejected), Err(Error::TimeTooSmall));
 }
 
-/// A line that cannot start the thread which frees idle buffers keeps none.
-fn a_line_without_a_thread_keeps_no_buffer() {
-    let (line, before) = (Line::new(1, 0), allocations());
+/// A line that cannot start the thread which frees idle buffers starts it when the next place is left.
+fn a_line_starts_a_denied_thread_later() {
+    let (line, before) = (Line::new(1, 0), THREADS.load(SeqCst));
     ARE_THREADS_DENIED.store(true, SeqCst);
     hash_in(&line);
-    hash_in(&line);
-    assert_eq!(allocations(), before + 2);
     ARE_THREADS_DENIED.store(false, SeqCst);
     hash_in(&line);
     hash_in(&line);
-    assert_eq!(allocations(), before + 3);
+    assert_eq!(THREADS.load(SeqCst), before + 1);
 }
 
 /// How a forked child ended that exits with the number that this work returns.
@@ -277,10 +273,10 @@ fn status_of_child(fork: unsafe extern "C" fn() -> i32, work: impl FnOnce() -> i
     status
 }
 
-/// In a forked child all places are free, though the parent holds both and another thread waits. The child uses no
-/// buffer of the parent, not even in a place that it inherits. Its ID is that of the parent if both are the first
-/// processes of their PID namespaces. `_Fork` calls no handlers, as the system's own call.
-fn a_forked_child_has_all_places_and_no_buffer(fork: unsafe extern "C" fn() -> i32, id: i32) {
+/// In a forked child all places are free, though the parent holds both and another thread waits, and a place that the
+/// child inherits serves it too. Its ID is that of the parent if both are the first processes of their PID namespaces.
+/// `_Fork` calls no handlers, as the system's own call.
+fn a_forked_child_has_all_places(fork: unsafe extern "C" fn() -> i32, id: i32) {
     let line = Line::new(2, 1);
     let (held, mut inherited) = (line.wait().unwrap(), line.wait().unwrap());
     inherited.run().hash_raw(PWD, SALT, &Config::default()).unwrap();
@@ -291,20 +287,13 @@ fn a_forked_child_has_all_places_and_no_buffer(fork: unsafe extern "C" fn() -> i
     while format!("{line:?}").contains("queue: []") {
         thread::yield_now(); // until the other thread waits
     }
-    let kept = Line::new(1, 0);
-    hash_in(&kept);
-    let before = allocations();
     let status = status_of_child(fork, move || {
         ID.store(id, SeqCst);
-        hash_in(&kept);
-        assert_eq!(allocations(), before + 1);
         inherited.run().hash_raw(PWD, SALT, &Config::default()).unwrap();
-        assert_eq!(allocations(), before + 2);
         drop(inherited);
         let places = [line.wait().unwrap(), line.wait().unwrap()];
         drop(places);
         hash_in(&line);
-        assert_eq!(allocations(), before + 3);
         0
     });
     assert_eq!(status, 0);
@@ -318,9 +307,9 @@ fn main() {
     no_copy_of_a_password_is_left();
     no_copy_of_a_tag_is_left();
     a_hasher_of_the_traits_verifies_with_at_most_16_threads();
-    a_place_whose_buffer_is_denied_computes_without_one();
-    a_line_without_a_thread_keeps_no_buffer();
-    a_forked_child_has_all_places_and_no_buffer(_Fork, 2);
-    a_forked_child_has_all_places_and_no_buffer(fork, 1);
-    a_line_keeps_a_cleared_buffer_for_ten_seconds();
+    a_line_whose_buffers_are_denied_computes_without_them();
+    a_line_starts_a_denied_thread_later();
+    a_forked_child_has_all_places(_Fork, 2);
+    a_forked_child_has_all_places(fork, 1);
+    a_line_keeps_a_buffer_for_ten_seconds();
 }

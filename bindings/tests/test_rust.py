@@ -195,14 +195,26 @@ def test_other_calls_pass_their_arguments_in_order(ask):
     assert limits.startswith("Limits { mem_cost: 7, time_cost: 8, lanes: 9, work: 10 }|")
 
 
+@pytest.mark.parametrize("name", [name for name, codes in CODES.items() if codes.computing])
+def test_a_call_of_a_place_uses_the_buffers_of_its_line(ask, name):
+    """They are as large as hashes with the line's settings need."""
+    assert ask([(name, "line", {})])[0].split("|")[3] == "65536"
+
+
 @pytest.mark.parametrize("how", ["alone", "over"])
 def test_a_login_of_an_unknown_user_computes_one_hash_with_the_settings_and_never_matches(ask, how):
-    """The hash uses as many threads as lanes, as a verification does, although the settings name three."""
     numbers = [0, HEADER["MISMATCH"], HEADER["OUT_OF_MEMORY"], HEADER["OLD_PROCESSOR"]]
     said = ask(("verify_unknown", how, {"then": number}) for number in numbers)
     found = [(line.split("|")[0], line.split("|")[2], line.split("|")[-1]) for line in said]
-    assert found == [(verdict, "4", "verify word  key data 2 19 64 3 4 5 ") for verdict in (
+    assert found == [(verdict, str(MOST), "unknown word key 2 19 64 3 4 5") for verdict in (
         "Ok(false)", "Ok(false)", "Err(OutOfMemory)", "Err(OldProcessor)")]
+
+
+def test_tune_returns_what_the_library_finds(ask):
+    numbers = [0, HEADER["TOO_COSTLY"], HEADER["LANES_TOO_FEW"], HEADER["OUT_OF_MEMORY"]]
+    found = [tuple(line.split("|")[::2][:2]) for line in ask(("tune", "", {"then": number}) for number in numbers)]
+    assert found == [(result, "3") for result in (
+        "Ok(Some((true, 77ns)))", "Ok(None)", "Err(LanesTooFew)", "Err(OutOfMemory)")]
 
 
 # The crates of each program, which are Debian's, and the compiler's flags. For `memory` the linker wraps the calls that
@@ -210,7 +222,9 @@ def test_a_login_of_an_unknown_user_computes_one_hash_with_the_settings_and_neve
 # package.
 TOKIO = 'tokio = { version = "1", features = ["rt-multi-thread", "macros", "time"] }'
 PROGRAMS = {
-    "memory": (with_crate("password-hash"), "-Clink-arg=-Wl,--wrap=proved_argon2_memory_new,--wrap=pthread_create"),
+    "memory": (with_crate("password-hash"),
+               "-Clink-arg=-Wl,--wrap=proved_argon2_memory_new,"
+               "--wrap=proved_argon2_buffers_new,--wrap=pthread_create"),
     "traits": (with_crate("password-hash"), ""),
     "serde": (with_crate("serde") + 'serde = "1"', ""),
     "page": (with_crate() + TOKIO, ""),

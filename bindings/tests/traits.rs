@@ -51,6 +51,17 @@ fn takes_a_pepper() {
     assert!(verdict(&with(b"other"), &stored, b"password").is_err());
 }
 
+/// Also of a hasher of the older version.
+fn takes_the_newest_version_by_default() {
+    let salt = Salt::try_from("c29tZXNhbHQ").unwrap();
+    let params = Params::new(256, 2, 1, None).unwrap();
+    for version in [Version::V0x10, Version::V0x13] {
+        let (hasher, name) = (Argon2::new(Algorithm::Argon2i, version, params.clone()), "argon2i".try_into().unwrap());
+        let made = hasher.hash_password_customized(b"password", Some(name), None, params.clone(), salt).unwrap();
+        assert_eq!(made.to_string(), STORED[1]);
+    }
+}
+
 fn rejects_what_is_wrong() {
     assert!(Params::new(7, 1, 1, None).is_err());
     for (from, to) in [("m=256", "m=7"), ("argon2id", "argon2"), ("v=19", "v=18"), ("t=2", "t=0"), ("$nf65", "$n")] {
@@ -82,6 +93,7 @@ fn main() {
     registers_and_logs_in();
     reads_and_writes_what_libargon2_does();
     takes_a_pepper();
+    takes_the_newest_version_by_default();
     rejects_what_is_wrong();
     differs();
 }

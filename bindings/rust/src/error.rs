@@ -12,8 +12,9 @@ macro_rules! errors {
         of_the_library { $($(#[$documented:meta])* $name:ident = $number:literal, $text:literal;)* }
         of_this_crate { $($(#[$documented_here:meta])* $name_here:ident, $text_here:literal;)* }
     ) => {
-        /// Why a call failed.
+        /// Why a call failed. Later versions may have more errors.
         #[derive(Clone, Debug, PartialEq)]
+        #[non_exhaustive]
         #[cfg_attr(feature = "serde", derive(serde::Serialize, serde::Deserialize))]
         #[cfg_attr(feature = "serde", serde(rename_all = "snake_case"))]
         pub enum Error {

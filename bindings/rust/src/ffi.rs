@@ -8,7 +8,7 @@ mod process;
 mod salt;
 
 pub use process::Process;
-pub use salt::{new_salt, SALT_SIZE};
+pub use salt::new_salt;
 
 use crate::{Config, Limits};
 use calls::*;
@@ -19,6 +19,7 @@ use std::ops::ControlFlow;
 use std::os::raw::c_int;
 use std::panic::{catch_unwind, resume_unwind, AssertUnwindSafe};
 use std::ptr::{null, null_mut, NonNull};
+use std::time::Duration;
 
 /// Success, or a match.
 pub const OK: u32 = 0;
@@ -58,6 +59,14 @@ pub struct Stored {
     pub salt_length: u32,
 }
 
+/// `proved_argon2_tuning` of the header.
+#[repr(C)]
+#[derive(Default)]
+pub struct Tuning {
+    pub settings: Settings,
+    pub nanoseconds: u64,
+}
+
 /// `proved_argon2_options` of the header.
 #[repr(C)]
 pub struct Options {
@@ -75,9 +84,11 @@ pub struct Options {
     // end
 }
 
-/// What the caller provides: a buffer, without which the call allocates memory, and a progress callback.
+/// What the caller provides: a buffer or kept buffers, without which the call allocates memory, and a progress callback.
+#[derive(Default)]
 pub struct Extras<'call, 'a> {
     pub buffer: Option<&'call mut Buffer>,
+    pub kept: Option<&'call Buffers>,
     pub progress: Option<&'call mut Progress<'a>>,
 }
 
@@ -106,6 +117,7 @@ impl Options {
             threads,
             memory,
             memory_len,
+            buffers: extras.kept.map_or(null_mut(), |kept| kept.0),
             progress: extras.progress.as_ref().map(|_| report as _),
             arg: extras.progress.map_or(null_mut(), |progress| (progress as *mut Progress<'_>).cast()),
             ..Options::NONE
@@ -164,6 +176,41 @@ impl Drop for Buffer {
             // SAFETY: the library allocated this memory, with this length, and it is freed once.
             unsafe { proved_argon2_memory_free(self.address, self.length) }
         }
+    }
+}
+
+/// Kept buffers, which calls in any threads share, and none if the system denied memory for the handle.
+#[derive(Debug)]
+pub struct Buffers(*mut c_void);
+
+// SAFETY: the library lets any thread use and free the handle.
+unsafe impl Send for Buffers {}
+
+// SAFETY: any number of threads may use the handle at once.
+unsafe impl Sync for Buffers {}
+
+impl Buffers {
+    /// A handle for at most this many buffers, each large enough for these settings.
+    pub fn new(settings: &Settings, most: usize) -> Buffers {
+        let (mut handle, most) = (null_mut(), u32::try_from(most).unwrap_or(u32::MAX));
+        // SAFETY: the library reads the settings, and writes to a variable of this function.
+        let number = unsafe { proved_argon2_buffers_new(settings, most, &mut handle) };
+        Buffers(if number == OK { handle } else { null_mut() })
+    }
+
+    /// Frees the buffers that have been idle for ten seconds, and returns when the next one will have been, if any is
+    /// idle.
+    pub fn free_idle(&self) -> Option<Duration> {
+        // SAFETY: the handle is the library's, or null, and exists as long as `self`.
+        let milliseconds = unsafe { proved_argon2_buffers_free_idle(self.0) };
+        (milliseconds > 0).then(|| Duration::from_millis(milliseconds.into()))
+    }
+}
+
+impl Drop for Buffers {
+    fn drop(&mut self) {
+        // SAFETY: no call uses the handle any more, since each borrows it. It is freed once.
+        unsafe { proved_argon2_buffers_free(self.0) }
     }
 }
 
@@ -240,18 +287,41 @@ pub fn verify_raw(pwd: &[u8], salt: &[u8], hash: &[u8], config: &Config<'_>, ext
     call!(proved_argon2_verify_raw_with, options, [pwd, salt, config.secret, config.ad], &settings, with, length)
 }
 
-/// Verifies a password against an encoded hash, if that is within the limits.
+/// Verifies a password against an encoded hash, if that is within the limits. If the password matches, and there are
+/// settings of new hashes, it compares these too.
 pub fn verify_encoded(
     text: &str,
     pwd: &[u8],
     secret: &[u8],
     ad: &[u8],
     limits: Option<&Limits>,
+    new: Option<&Settings>,
     extras: Extras<'_, '_>,
 ) -> u32 {
     let limits = limits.map_or(null(), |limits| limits as *const Limits);
-    let options = Options { limits, ..Options::by(ALL_THREADS, extras) };
+    let new_settings = new.map_or(null(), |new| new as *const Settings);
+    let options = Options { limits, new_settings, ..Options::by(ALL_THREADS, extras) };
     call!(proved_argon2_verify_encoded_with, options, [text, pwd, secret, ad])
+}
+
+/// Computes a hash of the password with these settings, and never matches.
+pub fn verify_unknown(pwd: &[u8], config: &Config<'_>, extras: Extras<'_, '_>) -> u32 {
+    let (options, settings) = (Options::by(ALL_THREADS, extras), Settings::of(config));
+    let (secret, length) = (config.secret.as_ptr(), config.secret.len());
+    // SAFETY: each pointer and length are those of a slice. The settings, and what the options point to, outlive the
+    // call. Threads that it starts end before it returns.
+    unsafe {
+        proved_argon2_password_verify_unknown(&options, &settings, pwd.as_ptr().cast(), pwd.len(), secret, length)
+    }
+}
+
+/// Searches for settings whose hash takes at most this many nanoseconds, if the number is `OK`.
+pub fn tune(config: &Config<'_>, nanoseconds: u64) -> (u32, Tuning) {
+    let (options, mut tuning) = (Options::by(config.workers(), Extras::default()), Tuning::default());
+    // SAFETY: the settings and the options are read, and `tuning` is this function's own. Threads that the call starts
+    // end before it returns.
+    let number = unsafe { proved_argon2_tune(&options, &Settings::of(config), nanoseconds, &mut tuning) };
+    (number, tuning)
 }
 
 /// The library's default limits.

@@ -1,14 +1,14 @@
-use crate::ffi::{self, Process, Settings};
-use crate::{Config, Memory, Run};
+use crate::ffi::{self, Buffers, Process, Settings};
+use crate::{Config, Run};
 use std::collections::VecDeque;
 use std::future::Future;
 use std::pin::Pin;
 use std::sync::{Arc, Mutex, MutexGuard, Weak};
 use std::task::{Context, Poll, Wake, Waker};
-use std::time::{Duration, Instant};
+use std::time::Duration;
 use std::{error, fmt, mem, thread};
 
-/// How long a buffer that no place uses is kept.
+/// How long the library keeps a buffer that no place uses.
 const IDLE: Duration = Duration::from_secs(10);
 
 /// A limit on how many hashes are computed at a time, and on how many callers wait for that. It serves threads and
@@ -37,15 +37,16 @@ const IDLE: Duration = Duration::from_secs(10);
 ///
 /// # Buffers
 ///
-/// Each place has a reusable buffer, which the calls of [`Place::run`] use. This saves the time in which the system
-/// maps, clears and unmaps memory. Each call clears the buffer before it returns. There are never more buffers than
-/// places. A buffer that nobody has used for ten seconds is freed, by a thread that sleeps meanwhile. A buffer of which
-/// no hash has needed more than half for ten seconds is freed when its place is left.
+/// The calls of [`Place::run`] compute in buffers that the library keeps, at most one for each place. This saves the
+/// time in which the system maps, clears and unmaps memory. Each call clears its buffer before it returns. A buffer that
+/// nobody has used for ten seconds is freed, by a thread that sleeps meanwhile or, if the system denies this thread, by
+/// a later call. A hash that needs a larger buffer uses memory of its own, and so does one whose buffer is denied.
 ///
 /// # Fork
 ///
-/// In a forked child all places of the line are free, no caller waits, and no buffer is kept, whatever the parent was
-/// doing. As with every lock, do not fork while another thread enters or leaves the line.
+/// In a forked child all places of the line are free and no caller waits, whatever the parent was doing. The child never
+/// uses a buffer in which a thread of its parent was computing. As with every lock, do not fork while another thread
+/// enters or leaves the line.
 #[derive(Clone, Debug)]
 pub struct Line(Arc<Shared>);
 
@@ -54,7 +55,7 @@ struct Shared {
     state: Mutex<State>,
     concurrency: usize,
     waiting: usize,
-    idle: Duration,
+    buffers: Buffers,
 }
 
 #[derive(Debug)]
@@ -66,9 +67,7 @@ struct State {
     next_ticket: u64,
     /// Those who wait, the first of whom gets the next place.
     queue: VecDeque<(u64, Waker)>,
-    /// The buffers that no place uses, and since when: the oldest first.
-    kept: Vec<(Memory, Instant)>,
-    /// Whether a thread frees what is kept for too long.
+    /// Whether a thread will free the buffers that are idle for too long.
     is_watched: bool,
 }
 
@@ -91,7 +90,6 @@ impl error::Error for Busy {}
 pub struct Place {
     line: Arc<Shared>,
     process: Process,
-    memory: Memory,
 }
 
 /// The future that [`Line::enter`] returns. Dropping it leaves the line.
@@ -103,21 +101,23 @@ pub struct Enter {
 }
 
 impl Line {
-    /// A line with this many places, at least one, in which this many more callers may wait.
+    /// A line with this many places, at least one, in which this many more callers may wait. Its buffers are as large as
+    /// hashes with [`Config::rfc9106_low_mem`] need.
     #[must_use]
     pub fn new(places: usize, waiting: usize) -> Line {
-        Line::keeping(places, waiting, IDLE)
+        Line::with_buffers(places, waiting, &Config::rfc9106_low_mem())
     }
 
     /// A line for hashes with these settings. It has as many places as `memory` bytes and one processor per lane allow,
-    /// at least one. 16 times as many callers may wait.
+    /// at least one. 16 times as many callers may wait. Its buffers are as large as such hashes need. If the CPU time of
+    /// a container is limited, fewer processors count ([`thread::available_parallelism`]).
     #[must_use]
     pub fn of(config: &Config<'_>, memory: usize) -> Line {
         let processors = thread::available_parallelism().map_or(1, usize::from);
         let lanes = usize::try_from(config.lanes.max(1)).unwrap_or(usize::MAX);
         let hash = usize::try_from(ffi::memory_len(&Settings::of(config))).unwrap_or(usize::MAX);
         let places = (processors / lanes).min(memory / hash.max(1)).max(1);
-        Line::new(places, 16 * places)
+        Line::with_buffers(places, 16 * places, config)
     }
 
     /// Waits for a place in async code. The future returns [`Busy`] at once if no more callers may wait.
@@ -142,35 +142,24 @@ impl Line {
         }
     }
 
-    /// A line that keeps idle buffers for this long.
-    fn keeping(places: usize, waiting: usize, idle: Duration) -> Line {
+    /// A line whose buffers are as large as hashes with these settings need.
+    fn with_buffers(places: usize, waiting: usize, config: &Config<'_>) -> Line {
         let concurrency = places.max(1);
-        Line(Arc::new(Shared { state: Mutex::new(State::new(concurrency)), concurrency, waiting, idle }))
+        let buffers = Buffers::new(&Settings::of(config), concurrency);
+        Line(Arc::new(Shared { state: Mutex::new(State::new(concurrency)), concurrency, waiting, buffers }))
     }
 }
 
 impl Place {
-    /// Calls that compute in this place's buffer. If the system denies memory for it, a call allocates its own memory.
+    /// Calls that compute in the line's buffers.
     pub fn run(&mut self) -> Run<'_> {
-        if self.process != Process::current() {
-            self.memory = Memory::new(); // in a forked child it would be a copy of the parent's
-        }
-        Run::new().over_if_granted(&mut self.memory)
+        Run::with_kept(&self.line.buffers)
     }
 }
 
 impl State {
     fn new(free: usize) -> State {
-        let (queue, kept) = (VecDeque::new(), Vec::new());
-        State { process: Process::current(), free, next_ticket: 0, queue, kept, is_watched: false }
-    }
-
-    /// Takes the buffers that have been idle for this long, and returns the time until the next one is due.
-    fn take_idle(&mut self, idle: Duration) -> (Vec<(Memory, Instant)>, Option<Duration>) {
-        let age = |since: &Instant| since.elapsed();
-        let count = self.kept.iter().take_while(|(_, since)| age(since) >= idle).count();
-        let taken = self.kept.drain(..count).collect();
-        (taken, self.kept.first().map(|(_, since)| idle.saturating_sub(age(since))))
+        State { process: Process::current(), free, next_ticket: 0, queue: VecDeque::new(), is_watched: false }
     }
 }
 
@@ -186,14 +175,10 @@ impl Shared {
         state
     }
 
-    /// Takes back a place with its buffer, and gives the place to the first in the queue, if there is one. One costly
-    /// hash must not hold memory for as long as there are others: a buffer that they do not need is freed.
-    fn leave(self: &Arc<Self>, memory: Memory) {
-        let needed = Some(memory).filter(|memory| memory.is_needed_within(self.idle));
+    /// Takes back a place, and gives it to the first in the queue, if there is one.
+    fn leave(self: &Arc<Self>) {
         let mut state = self.lock();
-        state.kept.extend(needed.map(|memory| (memory, Instant::now())));
-        let is_unwatched = !state.kept.is_empty() && !state.is_watched;
-        state.is_watched |= is_unwatched;
+        let is_unwatched = !mem::replace(&mut state.is_watched, true);
         let next = state.queue.pop_front();
         state.free += usize::from(next.is_none());
         drop(state);
@@ -205,34 +190,29 @@ impl Shared {
         }
     }
 
-    /// Starts the thread that frees idle buffers. If the system denies it, nothing is kept.
+    /// Starts the thread that frees idle buffers. If the system denies it, the next caller who leaves tries again.
     fn watch(self: &Arc<Self>) {
         let line = Arc::downgrade(self);
         let watcher = thread::Builder::new().name("argon2 buffers".to_owned()).spawn(move || free_idle(&line));
         if watcher.is_err() {
-            let mut state = self.lock();
-            state.is_watched = false;
-            let kept = mem::take(&mut state.kept);
-            drop(state);
-            drop(kept);
+            self.lock().is_watched = false;
         }
     }
 
-    /// Frees what is idle, and returns when to look again, unless nothing is kept.
+    /// Frees what has been idle for too long, and returns when to look again, unless nobody has to.
     fn free_idle(&self) -> Option<Duration> {
-        let mut state = self.lock();
-        let (_idle, next) = state.take_idle(self.idle);
-        state.is_watched = next.is_some();
-        drop(state);
-        next
+        self.lock().is_watched = false; // (first: a caller who leaves meanwhile has its buffer watched)
+        let next = self.buffers.free_idle()?;
+        (!mem::replace(&mut self.lock().is_watched, true)).then_some(next)
     }
 }
 
-/// Frees idle buffers until none is kept or the line is gone.
+/// Frees idle buffers until none is idle or the line is gone.
 fn free_idle(line: &Weak<Shared>) {
-    let look = || line.upgrade().and_then(|line| line.free_idle());
-    while let Some(next) = look() {
-        thread::sleep(next);
+    let mut next = Some(IDLE);
+    while let Some(time) = next {
+        thread::sleep(time);
+        next = line.upgrade().and_then(|line| line.free_idle());
     }
 }
 
@@ -247,7 +227,7 @@ impl Wake for Unpark {
 impl Drop for Place {
     fn drop(&mut self) {
         if self.process == Process::current() {
-            self.line.leave(mem::take(&mut self.memory));
+            self.line.leave();
         }
     }
 }
@@ -279,9 +259,8 @@ impl Future for Enter {
             }
         }
         self.ticket = None;
-        let memory = state.kept.pop().map(|(memory, _)| memory).unwrap_or_default();
         drop(state);
-        Poll::Ready(Ok(Place { line, process, memory }))
+        Poll::Ready(Ok(Place { line, process }))
     }
 }
 
@@ -296,7 +275,7 @@ impl Drop for Enter {
             let entry = index.and_then(|index| state.queue.remove(index));
             drop(state); // before the waker, which may own a task that has a place of this line
             if entry.is_none() {
-                self.line.leave(Memory::new());
+                self.line.leave();
             }
         }
     }

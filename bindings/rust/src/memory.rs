@@ -1,7 +1,6 @@
 #![allow(clippy::missing_errors_doc)] // each call has the errors of the one that it names
 use crate::ffi::{self, Buffer, Settings, OUT_OF_MEMORY};
 use crate::{Config, Limits, Result, Run, Unverified};
-use std::time::{Duration, Instant};
 use std::{fmt, result};
 
 /// A reusable buffer for the calls whose names end in `_in`, and for those of
@@ -26,8 +25,6 @@ use std::{fmt, result};
 #[derive(Default)]
 pub struct Memory {
     buffer: Buffer,
-    /// When a call of a place last needed more than half of the buffer.
-    needed: Option<Instant>,
 }
 
 impl Memory {
@@ -41,19 +38,6 @@ impl Memory {
     #[must_use]
     pub fn size(&self) -> usize {
         self.buffer.length()
-    }
-
-    /// Records the time, if a call that has just computed with these settings needed more than half of this buffer.
-    pub(crate) fn note_need(&mut self, settings: &Settings) {
-        let (size, need) = (self.size() as u64, ffi::memory_len(settings));
-        if need <= size && size < 2 * need {
-            self.needed = Some(Instant::now());
-        }
-    }
-
-    /// Whether a call of a place has needed more than half of the buffer within this time.
-    pub(crate) fn is_needed_within(&self, time: Duration) -> bool {
-        self.needed.map_or(false, |needed| needed.elapsed() < time)
     }
 
     /// Makes a call in this buffer, and returns its number. If the buffer is too small, it is replaced by one that fits

@@ -1,4 +1,4 @@
-use crate::ffi::{self, Extras, Progress, Settings, MISMATCH, OK, OUT_OF_MEMORY, TOO_COSTLY};
+use crate::ffi::{self, Buffers, Extras, Progress, Settings, MISMATCH, OK, TOO_COSTLY};
 use crate::{Config, Error, Limits, Memory, Result, Unverified};
 use std::ops::ControlFlow;
 use std::{fmt, result};
@@ -28,8 +28,7 @@ use std::{fmt, result};
 #[derive(Default)]
 pub struct Run<'a> {
     memory: Option<&'a mut Memory>,
-    /// Whether a call whose buffer is denied allocates its own memory.
-    is_memory_optional: bool,
+    kept: Option<&'a Buffers>,
     progress: Option<Progress<'a>>,
 }
 
@@ -50,9 +49,9 @@ impl<'a> Run<'a> {
         Run { memory: Some(memory), ..self }
     }
 
-    /// The same calls, in a reusable buffer or, if the system denies memory for it, in memory of their own.
-    pub(crate) fn over_if_granted(self, memory: &'a mut Memory) -> Run<'a> {
-        Run { memory: Some(memory), is_memory_optional: true, ..self }
+    /// A run whose calls compute in these buffers or, if all are used or too small, in memory of their own.
+    pub(crate) fn with_kept(buffers: &'a Buffers) -> Run<'a> {
+        Run { kept: Some(buffers), ..Run::default() }
     }
 
     /// The same calls, with a progress callback. A call invokes it in the caller's thread each time a slice is filled,
@@ -87,7 +86,7 @@ impl<'a> Run<'a> {
 
     /// As [`verify_encoded_ext`](crate::verify_encoded_ext).
     pub fn verify_encoded(&mut self, encoded: &str, pwd: &[u8], secret: &[u8], ad: &[u8]) -> Result<bool> {
-        verdict(self.verify(encoded, pwd, secret, ad, None))
+        verdict(self.verify(encoded, pwd, secret, ad, None, None))
     }
 
     /// As [`verify_encoded_within`](crate::verify_encoded_within).
@@ -99,10 +98,7 @@ impl<'a> Run<'a> {
         ad: &[u8],
         limits: &Limits,
     ) -> result::Result<bool, Unverified> {
-        match self.verify(encoded, pwd, secret, ad, Some(limits)) {
-            TOO_COSTLY => Err(Unverified::TooCostly),
-            number => Ok(verdict(number)?),
-        }
+        within_limits(self.verify(encoded, pwd, secret, ad, Some(limits), None))
     }
 
     /// As [`verify_password`](crate::verify_password).
@@ -131,34 +127,35 @@ impl<'a> Run<'a> {
         require_done(self.call(|| Settings::of(&config), |extras| ffi::hash_raw(pwd, salt, &config, extras, out)))
     }
 
-    /// Computes a hash that nobody learns: the library overwrites the tag, as it does with any that it compares.
-    pub(crate) fn compute(&mut self, pwd: &[u8], salt: &[u8], config: &Config<'_>) -> Result<()> {
-        require_done(ffi::check(pwd, salt, config))?;
-        self.verify_raw(pwd, salt, &zeros(config.hash_length.into())?, config).map(|_| ())
-    }
-
-    /// Verifies with limits or without.
-    fn verify(&mut self, encoded: &str, pwd: &[u8], secret: &[u8], ad: &[u8], limits: Option<&Limits>) -> u32 {
+    /// Verifies with limits or without, and compares the settings with those of new hashes, if there are any. Returns
+    /// the library's number.
+    pub(crate) fn verify(
+        &mut self,
+        encoded: &str,
+        pwd: &[u8],
+        secret: &[u8],
+        ad: &[u8],
+        limits: Option<&Limits>,
+        new: Option<&Settings>,
+    ) -> u32 {
         let settings = || ffi::read(encoded).1.settings;
-        self.call(settings, |extras| ffi::verify_encoded(encoded, pwd, secret, ad, limits, extras))
+        self.call(settings, |extras| ffi::verify_encoded(encoded, pwd, secret, ad, limits, new, extras))
     }
 
-    /// Makes a call with the buffer and the callback, and returns its number. The settings are computed only if the
-    /// buffer is too small, or is that of a place.
-    fn call(&mut self, settings: impl Fn() -> Settings, mut call: impl FnMut(Extras<'_, 'a>) -> u32) -> u32 {
-        let Run { memory, is_memory_optional, progress } = self;
-        let mut number = OUT_OF_MEMORY;
-        if let Some(memory) = memory {
-            number =
-                memory.call(&settings, |buffer| call(Extras { buffer: Some(buffer), progress: progress.as_mut() }));
-            if *is_memory_optional && verdict(number).is_ok() {
-                memory.note_need(&settings()); // (a call that is rejected computes nothing)
-            }
-        }
-        let is_denied = |memory: &Memory| *is_memory_optional && number == OUT_OF_MEMORY && memory.size() == 0;
-        if memory.as_deref().map_or(true, is_denied) {
-            number = call(Extras { buffer: None, progress: progress.as_mut() });
-        }
+    /// Makes a call with the buffers and the callback, and returns its number. The settings are computed only if the
+    /// reusable buffer is too small.
+    pub(crate) fn call(
+        &mut self,
+        settings: impl FnOnce() -> Settings,
+        mut call: impl FnMut(Extras<'_, 'a>) -> u32,
+    ) -> u32 {
+        let Run { memory, kept, progress } = self;
+        let number = match memory {
+            Some(memory) => memory.call(settings, |buffer| {
+                call(Extras { buffer: Some(buffer), kept: None, progress: progress.as_mut() })
+            }),
+            None => call(Extras { buffer: None, kept: *kept, progress: progress.as_mut() }),
+        };
         if let Some(progress) = progress {
             progress.resume_panic();
         }
@@ -180,8 +177,16 @@ fn zeros(length: u64) -> Result<Vec<u8>> {
     Ok(zeros)
 }
 
+/// Whether a verifying call with limits returned a match.
+pub(crate) fn within_limits(number: u32) -> result::Result<bool, Unverified> {
+    match number {
+        TOO_COSTLY => Err(Unverified::TooCostly),
+        number => Ok(verdict(number)?),
+    }
+}
+
 /// Whether a verifying call returned a match. Any number that is not a verdict is an error.
-fn verdict(number: u32) -> Result<bool> {
+pub(crate) fn verdict(number: u32) -> Result<bool> {
     match number {
         MISMATCH => Ok(false),
         number => require_done(number).map(|()| true),

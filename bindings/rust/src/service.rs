@@ -1,8 +1,7 @@
-use crate::{ffi, needs_rehash, Config, Limits, Result, Run, ThreadMode, Unverified};
+use crate::ffi::{self, Settings, NEEDS_REHASH, OK};
+use crate::run::{verdict, within_limits};
+use crate::{Config, Limits, Result, Run, Unverified};
 use std::result;
-
-/// The most threads that verify an encoded hash, however many lanes it has (`PROVED_ARGON2_MAX_VERIFYING_THREADS`).
-pub(crate) const MOST_THREADS: u32 = 16;
 
 /// Verifies a password at a login, and hashes it anew if the stored hash is outdated.
 ///
@@ -40,7 +39,7 @@ pub fn verify_and_update(
 ///
 /// # Errors
 ///
-/// As [`hash_raw`](crate::hash_raw). Otherwise it returns `Ok(false)`.
+/// As [`hash_raw`](crate::hash_raw), except that associated data have no effect. Otherwise it returns `Ok(false)`.
 ///
 /// # Examples
 ///
@@ -80,9 +79,8 @@ impl Run<'_> {
     ///
     /// The same, and [`Error::Stopped`](crate::Error::Stopped).
     pub fn verify_unknown(&mut self, pwd: &[u8], config: &Config<'_>) -> Result<bool> {
-        let as_verified = Config { thread_mode: ThreadMode::AtMost(MOST_THREADS), ..*config };
-        // (a fixed salt serves, since nobody learns the hash)
-        self.compute(pwd, &[0; ffi::SALT_SIZE], &as_verified).map(|()| false)
+        let number = self.call(|| Settings::of(config), |extras| ffi::verify_unknown(pwd, config, extras));
+        verdict(number).map(|_| false)
     }
 
     /// Verifies with the secret of one configuration, and hashes anew with another.
@@ -93,11 +91,11 @@ impl Run<'_> {
         old: &Config<'_>,
         new: &Config<'_>,
     ) -> result::Result<(bool, Option<String>), Unverified> {
-        if !self.verify_encoded_within(encoded, pwd, old.secret, old.ad, &Limits::at_least(new))? {
-            return Ok((false, None));
-        }
-        let is_outdated = old.secret != new.secret || needs_rehash(encoded, new) != Ok(false);
-        Ok((true, if is_outdated { self.hash_password_with(pwd, new).ok() } else { None }))
+        let (limits, settings) = (Limits::at_least(new), Settings::of(new));
+        let number = self.verify(encoded, pwd, old.secret, old.ad, Some(&limits), Some(&settings));
+        let is_outdated = number == NEEDS_REHASH || old.secret != new.secret;
+        let is_match = within_limits(if number == NEEDS_REHASH { OK } else { number })?;
+        Ok((is_match, if is_match && is_outdated { self.hash_password_with(pwd, new).ok() } else { None }))
     }
 }
 

@@ -1,7 +1,6 @@
 //! The traits of the crate `password-hash`, for programs that were written for RustCrypto's `argon2`.
 
 use crate::run::require_done;
-use crate::service::MOST_THREADS;
 use crate::{ffi, Config, Error, Limits, Run, ThreadMode, Variant, Version};
 use password_hash::{
     Decimal, Encoding, Error as HashError, Ident, Output, ParamsString, PasswordHash, PasswordHasher, Result, Salt,
@@ -9,6 +8,9 @@ use password_hash::{
 
 /// The most bytes of a salt in a string of the crate `password-hash`.
 const MOST_OF_A_SALT: usize = 64;
+
+/// The most threads that verify an encoded hash, however many lanes it has (`PROVED_ARGON2_MAX_VERIFYING_THREADS`).
+const MOST_THREADS: u32 = 16;
 
 /// The memory in KiB, the passes, the lanes and the length of the hash. `Params::default()` stands for those of the
 /// hasher.
@@ -63,7 +65,7 @@ impl Params {
     }
 }
 
-/// The settings that a stored hash names.
+/// The settings that a stored hash names. Verifying reads them so: a stored hash without a version is of version 0x10.
 impl TryFrom<&PasswordHash<'_>> for Params {
     type Error = HashError;
 
@@ -73,7 +75,9 @@ impl TryFrom<&PasswordHash<'_>> for Params {
         }
         let cost = |name: &str| hash.params.get_decimal(name).ok_or(HashError::ParamNameInvalid);
         let length = hash.hash.map(|tag| tag.len());
-        Ok(Params::new(cost("m")?, cost("t")?, cost("p")?, length)?)
+        let costs = Params::new(cost("m")?, cost("t")?, cost("p")?, length)?.costs();
+        let version = if hash.version.is_some() { costs.version } else { Version::Version10 };
+        Ok(Params(Some(Config { version, ..costs })))
     }
 }
 
@@ -166,8 +170,7 @@ impl<'key> Argon2<'key> {
     /// The settings that a stored hash names, if they are within limits, with the threads that may verify it.
     fn config_of(&self, name: Ident<'_>, version: Option<Decimal>, params: Params) -> Result<Config<'key>> {
         let variant = Variant::from_str(name.as_str()).map_err(|_| HashError::Algorithm)?;
-        // (a hash without a version is of the older one)
-        let version = version.map_or(Ok(Version::Version10), Version::from_u32)?;
+        let version = version.map_or(Ok(params.costs().version), Version::from_u32)?;
         let config = Config { variant, version, ..self.with(params) };
         let thread_mode = ThreadMode::AtMost(config.workers().min(MOST_THREADS));
         let config = Config { thread_mode, ..config };

@@ -1,11 +1,15 @@
 //! The calls of the C library, as its headers declare them: made by `declare.py`.
 
-use super::{Limits, Options, Settings, Stored};
+use super::{Limits, Options, Settings, Stored, Tuning};
 use std::ffi::c_void;
 
 #[allow(dead_code)] // some are called by tests alone
 #[rustfmt::skip] // as the headers are laid out
 extern "C" {
+    pub fn proved_argon2_buffers_free(buffers: *mut c_void);
+    pub fn proved_argon2_buffers_free_idle(buffers: *mut c_void) -> u32;
+    pub fn proved_argon2_buffers_new(
+        settings: *const Settings, most: u32, buffers: *mut *mut c_void) -> u32;
     pub fn proved_argon2_check(
         settings: *const Settings, pwd_len: u64, salt_len: u64, secret_len: u64, ad_len: u64) -> u32;
     pub fn proved_argon2_default_limits() -> Limits;
@@ -33,7 +37,13 @@ extern "C" {
     pub fn proved_argon2_message(number: u32) -> *const u8;
     pub fn proved_argon2_needs_rehash(
         text: *const u8, text_len: usize, settings: *const Settings) -> u32;
+    pub fn proved_argon2_password_verify_unknown(
+        options: *const Options, settings: *const Settings,
+        password: *const c_void, length: usize, pepper: *const u8, pepper_len: usize) -> u32;
     pub fn proved_argon2_read(text: *const u8, text_len: usize, stored: *mut Stored) -> u32;
+    pub fn proved_argon2_tune(
+        options: *const Options, most: *const Settings, nanoseconds: u64,
+        tuning: *mut Tuning) -> u32;
     pub fn proved_argon2_verify_encoded_with(
         options: *const Options,
         text: *const u8, text_len: usize,

@@ -1,7 +1,7 @@
-//! Places, the queue, and the buffers that places keep.
+//! Places and the queue.
 
 use super::{Busy, Enter, Line, Place, Unpark};
-use crate::{Config, Limits, Unverified};
+use crate::Config;
 use std::future::Future;
 use std::pin::Pin;
 use std::sync::atomic::{AtomicUsize, Ordering::SeqCst};
@@ -10,35 +10,14 @@ use std::task::{Context, Poll, Wake, Waker};
 use std::thread;
 use std::time::{Duration, Instant};
 
-/// Longer than any test takes.
-const LONG: Duration = Duration::from_secs(3600);
-
 /// The free places, and how many callers wait.
 fn state_of(line: &Line) -> (usize, usize) {
     let state = line.0.lock();
     (state.free, state.queue.len())
 }
 
-/// The bytes of each buffer that no place uses.
-fn kept_by(line: &Line) -> Vec<usize> {
-    line.0.lock().kept.iter().map(|(memory, _)| memory.size()).collect()
-}
-
 fn small(mem_cost: u32) -> Config<'static> {
     Config { mem_cost, time_cost: 1, ..Config::default() }
-}
-
-/// Computes a hash in a new place, in this many KiB.
-fn hash_in(line: &Line, mem_cost: u32) {
-    line.wait().unwrap().run().hash_raw(b"password", b"somesalt", &small(mem_cost)).unwrap();
-}
-
-/// Asks a new place to verify a hash that needs this many KiB. The limits reject it.
-fn reject_in(line: &Line, mem_cost: u32) {
-    let stored = crate::hash_encoded(b"password", b"somesalt", &small(mem_cost)).unwrap();
-    let limits = Limits { mem_cost: mem_cost - 1, ..Limits::default() };
-    let rejected = line.wait().unwrap().run().verify_encoded_within(&stored, b"password", &[], &[], &limits);
-    assert_eq!(rejected, Err(Unverified::TooCostly));
 }
 
 fn waker() -> Waker {
@@ -154,83 +133,8 @@ fn the_number_of_places_fits_the_settings_the_processors_and_the_memory() {
 }
 
 #[test]
-fn a_place_keeps_its_buffer_for_the_next_caller() {
-    let line = Line::keeping(2, 0, LONG);
-    drop(line.wait().unwrap()); // it computes nothing, and so has no buffer
-    assert_eq!(kept_by(&line), []);
-    hash_in(&line, 64);
-    hash_in(&line, 32); // a smaller hash is computed in the same buffer
-    assert_eq!(kept_by(&line), [64 << 10]);
-    hash_in(&line, 128); // a larger hash gets a new one
-    assert_eq!(kept_by(&line), [128 << 10]);
-    let (mut one, mut other) = (line.wait().unwrap(), line.wait().unwrap());
-    assert_eq!(kept_by(&line), []);
-    for place in [&mut one, &mut other] {
-        place.run().hash_raw(b"password", b"somesalt", &small(64)).unwrap();
-    }
-    drop((one, other));
-    assert_eq!(kept_by(&line), [128 << 10, 64 << 10]);
-}
-
-#[test]
-fn there_are_never_more_buffers_than_places() {
-    let line = Line::keeping(3, 100, LONG);
-    thread::scope(|scope| {
-        for _ in 0..12 {
-            scope.spawn(|| (0..50).for_each(|turn| hash_in(&line, 8 + turn % 3)));
-        }
-    });
-    assert!((1..=3).contains(&kept_by(&line).len()), "{:?}", kept_by(&line));
-    assert_eq!(state_of(&line), (3, 0));
-}
-
-#[test]
-fn only_buffers_that_are_idle_for_long_enough_are_freed() {
-    let idle = Duration::from_secs(2);
-    let line = Line::keeping(2, 0, idle);
-    let mut other = line.wait().unwrap();
-    hash_in(&line, 64);
-    thread::sleep(idle / 2);
-    other.run().hash_raw(b"password", b"somesalt", &small(32)).unwrap();
-    let begun = Instant::now(); // before the second buffer is idle
-    drop(other);
-    while kept_by(&line).len() == 2 {
-        assert!(begun.elapsed() < 50 * idle, "no buffer is freed");
-        thread::yield_now();
-    }
-    assert_eq!(kept_by(&line), [32 << 10]);
-    while line.0.lock().is_watched {
-        thread::yield_now();
-    }
-    assert!(begun.elapsed() >= idle);
-    assert_eq!(kept_by(&line), []);
-    hash_in(&line, 64); // the next buffer is watched anew
-    assert!(line.0.lock().is_watched);
-}
-
-#[test]
-fn a_buffer_is_freed_although_it_is_used_if_no_hash_has_needed_half_of_it_for_long_enough() {
-    let idle = Duration::from_secs(2);
-    let line = Line::keeping(1, 0, idle);
-    let begun = Instant::now();
-    hash_in(&line, 128);
-    while begun.elapsed() < idle * 3 / 4 {
-        hash_in(&line, 32);
-        assert_eq!(kept_by(&line), [128 << 10]);
-    }
-    let begun = Instant::now();
-    hash_in(&line, 68); // it needs more than half
-    while kept_by(&line) != [32 << 10] {
-        assert!(begun.elapsed() < 10 * idle, "no buffer is freed");
-        hash_in(&line, 32);
-        reject_in(&line, 128);
-    }
-    assert!(begun.elapsed() >= idle);
-}
-
-#[test]
-fn a_line_that_is_gone_keeps_no_buffer() {
-    let line = Line::keeping(1, 0, LONG);
+fn a_line_that_is_gone_is_freed_with_its_buffers() {
+    let line = Line::new(1, 0);
     let mut place = line.wait().unwrap();
     place.run().hash_raw(b"password", b"somesalt", &small(64)).unwrap();
     let shared = Arc::downgrade(&line.0);
