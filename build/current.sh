@@ -159,11 +159,11 @@ sum_part() {
     sum_files $sources $others
 }
 
-# Whether release/ is of these sources, as its manifest says: `is_of_sources FOLDER`.
+# Whether release/ is of these sources, and of no others, as its manifest says: `is_of_sources FOLDER`.
 is_of_sources() {
     sum_part "$1" || return
     why="release/MANIFEST is of other sources of $1"
-    grep -qxF "# sources $1 $sum" "$root/release/MANIFEST" 2>/dev/null
+    [ "$(grep "^# sources $1 " "$root/release/MANIFEST" 2>/dev/null)" = "# sources $1 $sum" ]
 }
 
 # Whether a file of release/, or a folder's content, is as the manifest names it: `is_listed PART`. `uniq -u` drops what

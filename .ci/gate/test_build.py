@@ -147,3 +147,26 @@ def test_a_link_on_a_page_runs_no_command_of_sed(tmp_path):
     assert came.returncode == 0 and not (tmp_path / 'ran').exists()
     shipped = (tmp_path / 'made/page.md').read_text(encoding='utf-8')
     assert shipped.endswith('# [a](a|b|e;i) [b](https://a.example/other/page.md#c)\n')
+
+
+def test_no_header_of_the_tree_is_found_in_place_of_the_system_s(tmp_path):
+    """It could rename the library's calls, and put other ones in their place."""
+    for name in 'VERSION', 'build', 'bindings', 'release/x86-64-v2', 'release/x86-64-v3', 'release/x86-64-v4':
+        copy = shutil.copytree if (TOP / name).is_dir() else shutil.copy
+        (tmp_path / name).parent.mkdir(exist_ok=True)
+        copy(TOP / name, tmp_path / name)
+    for folder in 'c/include', 'c/src', 'libargon2', 'javascript/addon', 'shell':
+        for name in 'stdint.h', 'stdlib.h', 'bits/stdint-uintn.h':
+            (tmp_path / 'bindings' / folder / 'bits').mkdir(exist_ok=True)
+            (tmp_path / 'bindings' / folder / name).write_text('#error a planted header\n', encoding='utf-8')
+    came = run(tmp_path / 'build/link', 'x86_64', tmp_path / 'release', tmp_path / 'linked')
+    assert came.returncode == 0, came.stdout
+
+
+@pytest.mark.parametrize('sums, status', [(['1'], 0), (['2'], 1), (['1', '2'], 1), (['2', '1'], 1), ([], 1)])
+def test_a_manifest_is_of_one_version_of_the_sources(tmp_path, sums, status):
+    (tmp_path / 'release').mkdir()
+    (tmp_path / 'release/MANIFEST').write_text(
+        ''.join(f'# sources {name} {number}\n' for number in sums for name in ('one', 'one-more')), encoding='utf-8')
+    script = f'root={tmp_path}; . build/current.sh; sum_part() {{ sum=1; }}; is_of_sources one'
+    assert run('sh', '-c', script).returncode == status
