@@ -116,8 +116,8 @@ every_job_can_be_filled pwd salt config len job tasks from some =
     subst Fills (sym from.made) (λ start four long.
     let good = setting_that_fits pwd salt config len from.accepted from.few_passes from.little_memory in
     let is = recovered s len good (accepted_hash config (length pwd) (length salt) len from.accepted) in
-    let end = a_team_can_finish (work_of (job_of s len) tasks) (apart (job_of s len) tasks some) (memory s good start)
-    (job_filling s good len tasks is start (record { four = four; long = long })) in
+    let end = a_team_can_finish (work_of (job_of s len) tasks) (apart (job_of s len) tasks some) (memory s start)
+    (job_filling s len tasks is start (record { four = four; long = long })) in
     let same : end.0.before 0 ≡ start = end.4 in (
       end.0,
       record {

@@ -1,5 +1,5 @@
 -- A job's memory while each step fills one lane after another with the blocks of Argon2. With it a team can finish.
-use Rattle.std.proofs.Common.{◌≡◌, ◌≢◌, ℕ, zero, suc, ◌+◌, ◌*◌, ◌/◌, ◌%◌, ◌<◌, ◌≤◌, List, [], ◌++◌, length, take, drop, set, get_or, Some, Ok}
+use Rattle.std.proofs.Common.{◌≡◌, ◌≢◌, ℕ, zero, suc, ◌+◌, ◌*◌, ◌/◌, ◌%◌, ◌<◌, ◌≤◌, List, [], ◌++◌, length, take, drop, set, get_or, Some}
 use Rattle.std.proofs.Common.{refl, sym, ◌∙◌, subst, ap, inl, inr, arith}
 use Rattle.std.specs.List.{remove}
 use Rattle.std.proofs.Math.Nat.{mul-le-mul_right}
@@ -9,9 +9,8 @@ use Rattle.std.proofs.lemmas.List.{drop_all, drop_at, get_or-set_other, get_or-s
 use Rattle.std.proofs.lemmas.List.Edits.{get_or-remove_above, get_or-remove_below}
 use Rattle.std.proofs.lemmas.List.FromFn.{length-map-range_with_len}
 use Rattle.argon2_standard.specs.Standard.Setting.{Setting}
-use Rattle.argon2_memory.specs.Views.Jobs.{IsSetting}
 use Rattle.argon2_memory.specs.Views.Places.{blocks_of_lane}
-use Rattle.argon2_memory.specs.Views.Segments.{IsReady, segment_at, segment_block}
+use Rattle.argon2_memory.specs.Views.Segments.{segment_at, segment_block}
 use Rattle.argon2_memory.proofs.Slices.{length-blocks_of_lane, remove-set}
 use Rattle.argon2_fill.proofs.CallerBlocks.{others-stay}
 use Rattle.argon2_c.specs.Jobs.{job_of, setting_of_job}
@@ -71,7 +70,7 @@ module _ (s : Setting) (slice : List (List ℕ)) (lane : ℕ) (new : List (List 
 abbrev Memory : Type 0
 Memory = List (List (List ℕ))
 
-module _ (s : Setting) (good : IsSetting s) where
+module _ (s : Setting) where
   -- four whole slices
   pub record AreSlices (m : Memory) : Type 0 where
     pub four : length m ≡ 4
@@ -178,9 +177,6 @@ module _ (s : Setting) (good : IsSetting s) where
   ]
 
   module _ (len tasks : ℕ) (is : setting_of_job (job_of s len) ≡ Some s) (start : Memory) (are : AreSlices start) where
-    abbrev job_memory : ℕ → ℕ → Memory
-    job_memory = memory start
-
     filled : (n lane : ℕ) → n < suc (4 * s.passes) → lane < s.lanes → (old : List (List ℕ)) → length old ≡ s.segment_length
         → FillsSegment (job_of s len) n lane (memory start n s.lanes) old (target n lane)
     filled zero lane few fits old long = rw is (record {
