@@ -176,9 +176,12 @@ static uint64_t made[ALL_MOVES]; /* over all runs */
 static struct model {
     const struct call *call;
     uint64_t step, woken[MOST_THREADS], entered[MOST_THREADS], state[MOST_THREADS];
-    uint32_t owner[MOST_THREADS]; /* the thread that claimed a worker's part last */
+    uint64_t written[MOST_THREADS]; /* one more than the step in which each lane was written last */
+    uint32_t owner[MOST_THREADS];   /* the thread that claimed a worker's part last */
     bool is_over;
 } model;
+
+#include "guards.h" /* whether Team.antt allows each move (guards.py) */
 
 static void make(enum move move, bool can)
 {
@@ -191,16 +194,11 @@ static bool is_at_work(void)
     return model.call != NULL && model.call->workers != NULL;
 }
 
-static bool is_in_step(void)
+/* Returns whether the running thread counts this step as its own: each thread except the caller's counts the steps that
+ * it has entered. */
+static bool is_own(uint64_t step)
 {
-    return !model.is_over && model.step <= 4 * (uint64_t)asked.passes;
-}
-
-/* Returns whether the running thread is in this step. Each thread except the caller's counts the steps that it has
- * entered. */
-static bool is_in(uint64_t step)
-{
-    return current == 0 ? is_in_step() && step == model.step : step + 1 == model.entered[current];
+    return current == 0 ? step == model.step : step + 1 == model.entered[current];
 }
 
 /* Makes the moves that the driver has made for all workers that are in a step, or for all that are not. */
@@ -209,39 +207,18 @@ static void move_workers(bool are_in_step)
     for (uint32_t i = 0; i < model.call->tasks; i++) {
         const worker *const worker = &model.call->workers[i];
         if (model.state[i] % 2 == are_in_step && model.state[i] != worker->state) {
-            const uint64_t step = model.state[i]++ / 2;
-            if (are_in_step) {
-                make(worker->code == 0 ? Completes : Fails, model.owner[i] == current);
-            } else {
-                make(Claims, is_in(step) && model.state[i] == worker->state);
+            const uint64_t step = model.state[i] / 2;
+            if (!are_in_step) {
+                make(Claims, can_Claims(step, i) && is_own(step) && worker->state == model.state[i] + 1);
                 model.owner[i] = current;
+            } else if (worker->code == 0) {
+                make(Completes, can_Completes(step, i) && model.owner[i] == current);
+            } else {
+                make(Fails, can_Fails(step, i, worker->code) && model.owner[i] == current);
             }
+            model.state[i]++;
         }
     }
-}
-
-static bool are_workers_through(void)
-{
-    bool are_through = true;
-    for (uint32_t i = 0; i < model.call->tasks; i++) {
-        are_through = are_through && model.state[i] == 2 * model.step + 2;
-    }
-    return are_through;
-}
-
-static bool are_codes_zero(void)
-{
-    bool are_zero = true;
-    for (uint32_t i = 0; i < model.call->tasks; i++) {
-        are_zero = are_zero && model.call->workers[i].code == 0;
-    }
-    return are_zero;
-}
-
-/* Returns whether the caller's thread may stop: after the last step, or after a whole step. */
-static bool can_stop(void)
-{
-    return !model.is_over && (model.step == 4 * (uint64_t)asked.passes + 1 || are_workers_through());
 }
 
 /* Makes the moves of the running thread since the last look. No other thread ran, so their order is known. */
@@ -253,12 +230,12 @@ static void look_at_moves(void)
     }
     move_workers(true);
     if (model.step != call->step && run.code == PROVED_ARGON2_OK) {
-        make(Advances, is_in_step() && are_workers_through() && are_codes_zero());
+        make(Advances, can_Advances());
         model.step++;
     }
     move_workers(false);
     if (call->is_over && !model.is_over) {
-        make(Stops, can_stop());
+        make(Stops, can_Stops());
         model.is_over = true;
     }
 }
@@ -335,7 +312,8 @@ void proved_driver_wake(team *own, uint32_t number)
     must(is_team && own == &one_team && !run.is_forked && number <= own->members, "a thread of the team is woken");
     look_at_moves();
     if (number != 0 && !model.is_over) {
-        make(Wakes, current == 0 && is_in_step() && model.woken[number]++ == model.step);
+        make(Wakes, current == 0 && can_Wakes(number) && model.woken[number] == model.step);
+        model.woken[number]++;
     }
     threads[number].woken++;
     threads[number].state = threads[number].state == WAITING ? READY : threads[number].state;
@@ -356,7 +334,8 @@ void proved_driver_await(team *own, uint32_t number)
     }
     self->waited++;
     if (number != 0 && is_at_work() && !model.call->is_over) {
-        make(Enters, model.entered[number]++ < model.woken[number]);
+        make(Enters, can_Enters(number));
+        model.entered[number]++;
     }
 }
 
@@ -503,7 +482,8 @@ static void write_lane(uint64_t step, uint32_t lane)
 {
     const uint32_t worker = lane % model.call->tasks;
     go_on();
-    make(Writes, model.state[worker] == 2 * step + 1 && model.owner[worker] == current);
+    make(Writes, can_Writes(step, worker) && model.owner[worker] == current);
+    model.written[lane] = step + 1;
 }
 
 /* A step for a lane, which none has taken yet. */

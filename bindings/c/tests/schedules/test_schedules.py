@@ -5,16 +5,19 @@ must hold in each run, and checks each move of a thread against the proved model
 each fault of faults.txt is planted in the driver, and has to be found.
 """
 
+import functools
 import itertools
 import re
 import subprocess
 from pathlib import Path
 
+import guards
 import pytest
 from running import TOP, ahead, rows
 
 HERE = Path(__file__).resolve().parent
 DRIVER = (TOP / 'bindings/c/src/proved_argon2_driver.c').read_text(encoding='utf-8')
+TEAM = (TOP / 'crates/argon2_c/specs/Team.antt').read_text(encoding='utf-8')
 COMPILER = ('gcc', '-std=c11', '-O1', '-g', '-fno-sanitize-recover=all', '-Wall', '-Wextra', '-Werror',
             '-I', TOP / 'bindings/c/include', '-I', TOP / 'bindings/c/src')
 SANITIZED = '-fsanitize=address,undefined'
@@ -32,6 +35,17 @@ RUNS = {(1, 1): (128, 192), (1, 2): (128, 192), (1, 3): (128, 192),
 # By each fault's name: a piece of the driver, and what takes its place. @ separates the lines of a piece.
 FAULTS = {name: [piece.replace('@', '\n') for piece in pieces] for name, *pieces in rows(HERE / 'faults.txt')}
 assert len(FAULTS) == 42
+# By move, a piece of the model, and one with which the model allows the move less often.
+NARROWER = {
+    'Wakes': ('s.woken j ≤ s.step', 's.woken j < s.step'),
+    'Enters': ('s.entered j < s.woken j', 's.entered j + 1 < s.woken j'),
+    'Claims': ('pub free : s.state worker ≡ 2 * step', 'pub free : s.state worker + 1 ≡ 2 * step'),
+    'Writes': ('pub can : CanEnd w s step worker', 'pub can : CanClaim w s step worker'),
+    'Completes': ('w.worker l ≡ worker → w.Fills', 'w.worker l ≤ worker → w.Fills'),
+    'Fails': ('code ≢ 0', 'code ≡ 0'),
+    'Advances': ('pub more : s.step < w.steps', 'pub more : s.step + 1 < w.steps'),
+    'Stops': ('(s.step ≡ w.steps) ⊎ AreThrough w s', 's.step ≡ w.steps'),
+}
 
 
 def moves_of(spec):
@@ -48,17 +62,21 @@ def compiled(source, made, *flags):
 
 @pytest.fixture(scope='module')
 def program_over(tmp_path_factory):
-    """A function that builds the program over a driver with some text, and returns the program's path."""
-    folder = tmp_path_factory.mktemp('made')
-    rest = [compiled(HERE / f'{name}.c', folder / f'{name}.o', SANITIZED) for name in ('explore_schedules', 'accesses')]
-    numbers = itertools.count()
+    """A function that builds the program over a driver and a model with some texts, and returns the program's path."""
+    accesses = compiled(HERE / 'accesses.c', tmp_path_factory.mktemp('made') / 'accesses.o', SANITIZED)
 
-    def over(text):
-        made = folder / f'driver{next(numbers)}'
+    @functools.cache
+    def exploring(team):
+        folder = tmp_path_factory.mktemp('made')
+        (folder / 'guards.h').write_text(guards.guards(team), encoding='utf-8')
+        return compiled(HERE / 'explore_schedules.c', folder / 'explore_schedules.o', SANITIZED, '-I', folder)
+
+    def over(text, team=TEAM):
+        made = tmp_path_factory.mktemp('made') / 'driver'
         source = made.with_suffix('.c')
         source.write_text(text, encoding='utf-8')
         driver = compiled(source, made.with_suffix('.o'), *WATCHED)
-        subprocess.run([*COMPILER, SANITIZED, *rest, driver, *WRAPPED, '-o', made], check=True)
+        subprocess.run([*COMPILER, SANITIZED, exploring(team), accesses, driver, *WRAPPED, '-o', made], check=True)
         return made
     return over
 
@@ -109,3 +127,16 @@ def test_each_fault_is_found(found, name):
     assert said, 'no run finds it'
     violated, is_named, _ = name.partition(': ')
     assert not is_named or said.startswith(f'violated: {violated};'), said
+
+
+@pytest.mark.parametrize('move', NARROWER)
+def test_a_narrower_model_is_noticed(program_over, move):
+    """The guards are those of Team.antt: if it allows a move less often, some run makes a move that it forbids."""
+    assert TEAM.count(NARROWER[move][0]) == 1, 'it cannot be narrowed'
+    _, said = said_by(program_over(DRIVER, TEAM.replace(*NARROWER[move])), (2, 2, 1))
+    assert said.startswith(f'violated: {move};'), said
+
+
+def test_each_move_has_a_guard():
+    found = re.findall(r'bool can_(\w+)\(', guards.guards(TEAM))
+    assert found == moves_of('Team') == list(NARROWER)
