@@ -30,13 +30,14 @@ func Hash(password []byte, settings Settings) (encoded string, err error) {
 // HashRaw returns the tag (raw hash) of settings.HashLength bytes, for example to derive a key. settings.SaltLength has
 // no effect: the salt is used as it is.
 func HashRaw(password, salt []byte, settings Settings) ([]byte, error) {
-	return run{settings: settings}.compute(password, salt, false)
+	return run{settings: settings}.hashRaw(password, salt)
 }
 
 // Verify returns whether a password matches an encoded hash that is within [DefaultLimits]. An error means that nothing
 // was compared: let nobody in.
 func Verify(encoded string, password []byte) (matches bool, err error) {
-	return run{limits: DefaultLimits()}.verify(encoded, password)
+	matches, _, err = run{limits: DefaultLimits()}.verify(encoded, password, nil)
+	return matches, err
 }
 
 // VerifyAndUpdate verifies a password as [Verify] does, with the secret and the data of the settings, and within their
@@ -81,12 +82,12 @@ func deriveKey(v Variant, password, salt []byte, time, memory uint32, threads ui
 	return key
 }
 
-// run computes hashes with settings, and verifies within limits.
+// run makes calls with settings and limits.
 type run struct {
 	settings Settings
 	limits   Limits
-	buffer   *buffer // where the calls compute, or nil: then each allocates its own memory
-	stop     *int32  // nil, or stops a call once it is not 0
+	buffers  *buffers // what the calls compute in, or nil: then each allocates its own memory
+	stop     *int32   // stops a call once it is not 0, or nil: then nothing stops it
 }
 
 func (r run) hash(password []byte) (string, error) {
@@ -97,19 +98,35 @@ func (r run) hash(password []byte) (string, error) {
 	if _, err := rand.Read(salt); err != nil {
 		return "", fmt.Errorf("%w: %v", ErrNoRandomBytes, err)
 	}
-	encoded, err := r.compute(password, salt, true)
-	if err != nil {
+	encoded := make([]byte, r.settings.encodedLength()+1)
+	if err := r.compute(password, salt, true, encoded); err != nil {
 		return "", err
 	}
 	return string(encoded[:len(encoded)-1]), nil
 }
 
-func (r run) verify(encoded string, password []byte) (bool, error) {
-	err := r.compare(encoded, password)
-	if err == mismatch {
-		return false, nil
+func (r run) hashRaw(password, salt []byte) ([]byte, error) {
+	if err := r.check(password, uint64(len(salt))); err != nil {
+		return nil, err
 	}
-	return err == nil, err
+	tag := make([]byte, r.settings.HashLength)
+	if err := r.compute(password, salt, false, tag); err != nil {
+		return nil, err
+	}
+	return tag, nil
+}
+
+// verify returns whether the password matches, and whether an encoded hash that it matches was made with other settings
+// than those of today, if there are any.
+func (r run) verify(encoded string, password []byte, today *Settings) (matches, isDue bool, err error) {
+	switch err := r.compare(encoded, password, today); err {
+	case mismatch:
+		return false, false, nil
+	case needsNew:
+		return true, true, nil
+	default:
+		return err == nil, false, err
+	}
 }
 
 // verifyAndUpdate verifies with an old pepper, if the stored hash has one. It computes a new hash with the settings if
@@ -119,24 +136,16 @@ func (r run) verifyAndUpdate(encoded string, password []byte, old *Pepper) (matc
 	if old != nil {
 		verifier.settings.Secret = old.Key
 	}
-	if matches, err = verifier.verify(encoded, password); !matches {
-		return false, "", err
-	}
-	if needs, err := NeedsRehash(encoded, r.settings); needs || old != nil || err != nil {
+	matches, isDue, err := verifier.verify(encoded, password, &r.settings)
+	if matches && (isDue || old != nil) {
 		updated, _ = r.hash(password)
 	}
-	return true, updated, nil
+	return matches, updated, err
 }
 
-func (r run) verifyUnknown(password []byte) (bool, error) {
-	if err := r.check(password, uint64(r.settings.SaltLength)); err != nil {
-		return false, err
-	}
-	r.settings.Threads = r.settings.threads(maxVerifyingThreads)
-	// Nobody sees the hash: zeros suffice as salt.
-	tag, err := r.compute(password, make([]byte, r.settings.SaltLength), false)
-	for i := range tag {
-		tag[i] = 0
+func (r run) verifyUnknown(password []byte) (matches bool, err error) {
+	if err = r.compareUnknown(password); err == mismatch {
+		return false, nil
 	}
 	return false, err
 }

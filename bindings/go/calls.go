@@ -25,7 +25,7 @@ static int must_stop(void *number, uint64_t done, uint64_t all)
 }
 
 // Go may not pass a pointer to memory that contains pointers, as the options do. So these calls are passed the options
-// by value. options.arg, for the callback, points to the number that stops the call, or is null.
+// by value. options.arg points to the number that stops the call, or is null: then nothing calls back.
 
 static uint32_t go_argon2_hash(proved_argon2_options options, go_bytes pwd, go_bytes salt, go_bytes secret, go_bytes ad,
 	proved_argon2_settings settings, _Bool is_encoded, go_bytes out)
@@ -45,21 +45,44 @@ static uint32_t go_argon2_verify(
 	return proved_argon2_verify_encoded_with(
 		&options, (const char *)text.at, text.length, PASS(pwd), PASS(secret), PASS(ad));
 }
+
+static uint32_t go_argon2_verify_unknown(
+	proved_argon2_options options, proved_argon2_settings settings, go_bytes pwd, go_bytes secret)
+{
+	options.progress = options.arg == NULL ? NULL : must_stop;
+	return proved_argon2_password_verify_unknown(&options, &settings, PASS(pwd), PASS(secret));
+}
+
+static uint32_t go_argon2_tune(proved_argon2_options options, proved_argon2_settings most, uint64_t nanoseconds,
+	proved_argon2_tuning *tuning)
+{
+	options.progress = options.arg == NULL ? NULL : must_stop;
+	return proved_argon2_tune(&options, &most, nanoseconds, tuning);
+}
 */
 import "C"
 
 import (
+	"math"
+	"runtime"
 	"strings"
+	"sync/atomic"
+	"time"
 	"unsafe"
 )
 
-// Numbers that the library returns and that this package handles, and the most threads that verify an encoded hash.
+// Numbers that the library returns and that this package handles.
 const (
-	mismatch            = Error(C.PROVED_ARGON2_MISMATCH)
-	needsNew            = Error(C.PROVED_ARGON2_NEEDS_REHASH)
-	stopped             = Error(C.PROVED_ARGON2_STOPPED)
-	maxVerifyingThreads = C.PROVED_ARGON2_MAX_VERIFYING_THREADS
+	mismatch = Error(C.PROVED_ARGON2_MISMATCH)
+	needsNew = Error(C.PROVED_ARGON2_NEEDS_REHASH)
+	stopped  = Error(C.PROVED_ARGON2_STOPPED)
 )
+
+// idle is how long the library keeps a buffer that no call uses.
+const idle = 10 * time.Second
+
+// mostBuffers limits how many buffers are kept: each call looks at all of them.
+const mostBuffers = 1024
 
 // check returns the error of a hash with these settings, if any. Call it before you allocate a salt or a tag: both may
 // be huge.
@@ -69,77 +92,111 @@ func (r run) check(password []byte, saltLength uint64) error {
 		C.uint64_t(len(r.settings.Secret)), C.uint64_t(len(r.settings.Data))))
 }
 
-// compute returns the tag, or the encoded hash and then a zero.
-func (r run) compute(password, salt []byte, isEncoded bool) ([]byte, error) {
-	err := r.check(password, uint64(len(salt)))
-	if err != nil {
-		return nil, err
-	}
-	s, settings := r.settings, r.settings.c()
-	length := uint64(s.HashLength)
-	if isEncoded {
-		length = uint64(C.proved_argon2_encoded_len(&settings, C.uint32_t(len(salt)))) + 1
-	}
-	out := make([]byte, length)
-	err = r.call(s.threads(s.Lanes), nil, func(options C.proved_argon2_options) C.uint32_t {
-		return C.go_argon2_hash(options, pass(password), pass(salt), pass(s.Secret), pass(s.Data), settings,
-			C._Bool(isEncoded), pass(out))
-	})
-	if err != nil {
-		return nil, err
-	}
-	return out, nil
+// encodedLength returns the length of an encoded hash.
+func (s Settings) encodedLength() uint64 {
+	settings := s.c()
+	return uint64(C.proved_argon2_encoded_len(&settings, C.uint32_t(s.SaltLength)))
 }
 
-// compare compares a password with an encoded hash. It returns nil only if the password matches.
-func (r run) compare(encoded string, password []byte) error {
+// compute writes the tag, or the encoded hash and then a zero.
+func (r run) compute(password, salt []byte, isEncoded bool, out []byte) error {
+	s := r.settings
+	return r.call(func(options C.proved_argon2_options) C.uint32_t {
+		return C.go_argon2_hash(options, pass(password), pass(salt), pass(s.Secret), pass(s.Data), s.c(),
+			C._Bool(isEncoded), pass(out))
+	})
+}
+
+// compare compares a password with an encoded hash. It returns nil if the password matches, or needsNew if it matches
+// and the hash was made with other settings than those of today, if there are any.
+func (r run) compare(encoded string, password []byte, today *Settings) error {
 	s := r.settings
 	limits := C.proved_argon2_limits{mem_cost: C.uint32_t(r.limits.Memory), time_cost: C.uint32_t(r.limits.Time),
 		lanes: C.uint32_t(r.limits.Lanes), work: C.uint64_t(r.limits.Work)}
-	return r.call(s.threads(maxVerifyingThreads), &limits, func(options C.proved_argon2_options) C.uint32_t {
+	return r.call(func(options C.proved_argon2_options) C.uint32_t {
+		options.limits = &limits
+		if today != nil {
+			settings := today.c()
+			options.new_settings, options.new_salt_len = &settings, C.size_t(today.SaltLength)
+		}
 		return C.go_argon2_verify(options, pass([]byte(encoded)), pass(password), pass(s.Secret), pass(s.Data))
 	})
 }
 
-// call makes a call in the buffer. If a stored hash needs more memory than the Hasher's settings do, the call allocates
-// its own memory. A buffer of that size would stay allocated for as long as logins use it. The call also allocates its
-// own memory if the system denies a buffer.
-func (r run) call(threads uint32, limits *C.proved_argon2_limits,
-	attempt func(C.proved_argon2_options) C.uint32_t) error {
-	options := C.proved_argon2_options{size: C.sizeof_proved_argon2_options, threads: C.uint32_t(threads),
-		limits: limits, arg: unsafe.Pointer(r.stop)}
-	if r.buffer != nil {
-		r.buffer.grow(r.settings)
-		memory := pass(r.buffer.memory)
-		options.memory, options.memory_len = unsafe.Pointer(memory.at), memory.length
-	}
-	number := attempt(options)
-	if number == C.PROVED_ARGON2_OUT_OF_MEMORY && options.memory != nil {
-		options.memory, options.memory_len = nil, 0
-		number = attempt(options)
-	}
-	return errorOf(number)
+// compareUnknown takes as long as compare. It returns mismatch, or the error that prevented a hash.
+func (r run) compareUnknown(password []byte) error {
+	return r.call(func(options C.proved_argon2_options) C.uint32_t {
+		return C.go_argon2_verify_unknown(options, r.settings.c(), pass(password), pass(r.settings.Secret))
+	})
 }
 
-// grow replaces a buffer that is too small for these settings. If the system denies the new one, b becomes empty.
-func (b *buffer) grow(s Settings) {
+// tune searches for settings. It returns ErrTooCostly if there are none.
+func (r run) tune(within time.Duration) (Tuning, error) {
+	var found C.proved_argon2_tuning
+	if within < 0 {
+		within = 0
+	}
+	err := r.call(func(options C.proved_argon2_options) C.uint32_t {
+		return C.go_argon2_tune(options, r.settings.c(), C.uint64_t(within), &found)
+	})
+	tuned := r.settings
+	tuned.Memory, tuned.Time = uint32(found.settings.mem_cost), uint32(found.settings.time_cost)
+	return Tuning{tuned, time.Duration(found.nanoseconds)}, err
+}
+
+// call makes a call with options. No thread starts for a lane that the settings do not have.
+func (r run) call(attempt func(C.proved_argon2_options) C.uint32_t) error {
+	threads := r.settings.Threads
+	if threads == 0 {
+		threads = math.MaxUint32
+	}
+	options := C.proved_argon2_options{
+		size: C.sizeof_proved_argon2_options, threads: C.uint32_t(threads), arg: unsafe.Pointer(r.stop)}
+	if r.buffers == nil {
+		return errorOf(attempt(options))
+	}
+	options.buffers = r.buffers.kept
+	err := errorOf(attempt(options))
+	r.buffers.watch()
+	return err
+}
+
+// buffers are kept buffers of the library.
+type buffers struct {
+	kept      *C.proved_argon2_buffers
+	isWatched int32 // 1 if a timer will free those that are idle
+}
+
+// newBuffers makes buffers that are freed once nothing refers to them.
+func newBuffers(s Settings, most int) (*buffers, error) {
+	if most > mostBuffers {
+		most = mostBuffers
+	}
 	settings := s.c()
-	if uint64(len(b.memory)) >= uint64(C.proved_argon2_memory_len(&settings)) {
-		return
+	var kept *C.proved_argon2_buffers
+	if err := errorOf(C.proved_argon2_buffers_new(&settings, C.uint32_t(most), &kept)); err != nil {
+		return nil, err
 	}
-	b.free()
-	var address unsafe.Pointer
-	var length C.size_t
-	if C.proved_argon2_memory_new(&settings, &address, &length) == C.PROVED_ARGON2_OK {
-		b.memory = unsafe.Slice((*byte)(address), length)
+	b := &buffers{kept: kept}
+	runtime.SetFinalizer(b, func(b *buffers) { C.proved_argon2_buffers_free(b.kept) })
+	return b, nil
+}
+
+// watch has a timer free what is idle, after a call that used a buffer.
+func (b *buffers) watch() { b.watchAfter(idle) }
+
+func (b *buffers) watchAfter(pause time.Duration) {
+	if atomic.SwapInt32(&b.isWatched, 1) == 0 {
+		time.AfterFunc(pause, b.freeIdle)
 	}
 }
 
-// free clears and frees the buffer, if there is one.
-func (b *buffer) free() {
-	memory := pass(b.memory)
-	C.proved_argon2_memory_free(unsafe.Pointer(memory.at), memory.length)
-	b.memory = nil
+// freeIdle frees the buffers that have been idle for long enough, and comes back when the next one is due.
+func (b *buffers) freeIdle() {
+	atomic.StoreInt32(&b.isWatched, 0) // (before it looks: else nobody would watch a buffer that is left meanwhile)
+	if milliseconds := C.proved_argon2_buffers_free_idle(b.kept); milliseconds > 0 {
+		b.watchAfter(time.Duration(milliseconds) * time.Millisecond)
+	}
 }
 
 func (s Settings) c() C.proved_argon2_settings {

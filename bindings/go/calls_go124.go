@@ -8,6 +8,10 @@ package argon2
 // #cgo nocallback go_argon2_hash
 // #cgo noescape go_argon2_verify
 // #cgo nocallback go_argon2_verify
+// #cgo noescape go_argon2_verify_unknown
+// #cgo nocallback go_argon2_verify_unknown
+// #cgo noescape go_argon2_tune
+// #cgo nocallback go_argon2_tune
 // #cgo noescape proved_argon2_needs_rehash
 // #cgo nocallback proved_argon2_needs_rehash
 // #cgo noescape proved_argon2_read

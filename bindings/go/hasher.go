@@ -5,13 +5,8 @@ import (
 	"fmt"
 	"io"
 	"math"
-	"sync"
 	"sync/atomic"
-	"time"
 )
-
-// idle is how long a buffer that no call uses is kept.
-const idle = 10 * time.Second
 
 // Hasher limits how many hashes are computed at a time, and how many callers wait for that. Make one for the whole
 // service. Its methods can be called by any goroutines. Those of a zero value return [ErrNoHasher].
@@ -27,10 +22,10 @@ const idle = 10 * time.Second
 //
 // # Buffers
 //
-// Each running hash uses a buffer of the Hasher, which is cleared after the hash and kept for the next one. There are
-// never more buffers than the concurrency. A buffer that is not used for ten seconds is freed. A buffer has at least
-// the size that the Hasher's settings need. If a stored hash needs more, or the system denies a buffer, the call
-// allocates its own memory, and frees it.
+// A running hash uses a buffer of the Hasher, which is cleared after the hash and kept for the next one. There are at
+// most as many buffers as places, or 1,024. A buffer that is not used for ten seconds is freed. If a hash needs more
+// memory than the settings of [NewHasher] do, or the system denies a buffer, the call allocates its own memory, and
+// frees it.
 type Hasher struct {
 	queue    *queue
 	settings *Settings // a pointer, since for %w and %p package fmt would print a value with its secret
@@ -44,16 +39,18 @@ func NewHasher(settings Settings, concurrency, waiting int) (*Hasher, error) {
 	if err := (run{settings: settings}).check(nil, uint64(settings.SaltLength)); err != nil {
 		return nil, err
 	}
-	return &Hasher{newQueue(concurrency, waiting), &settings, LimitsFor(settings)}, nil
-}
-
-func newQueue(concurrency, waiting int) *queue {
 	concurrency = highest(concurrency, 1)
 	callers := concurrency + highest(waiting, 0)
 	if callers < 0 { // the sum overflowed
 		callers = math.MaxInt
 	}
-	return &queue{callers: make(chan struct{}, callers), places: make(chan struct{}, concurrency), idle: idle}
+	buffers, err := newBuffers(settings, concurrency)
+	if err != nil {
+		return nil, err
+	}
+	return &Hasher{
+		&queue{make(chan struct{}, callers), make(chan struct{}, concurrency), buffers}, &settings, LimitsFor(settings),
+	}, nil
 }
 
 // With returns a Hasher with other settings, for example with the associated data of a user, and the limits for them.
@@ -72,7 +69,10 @@ func (h *Hasher) Hash(ctx context.Context, password []byte) (encoded string, err
 
 // Verify is [Verify] with the secret, the data and the limits of the Hasher.
 func (h *Hasher) Verify(ctx context.Context, encoded string, password []byte) (matches bool, err error) {
-	return enqueue(ctx, h, func(r run) (bool, error) { return r.verify(encoded, password) })
+	return enqueue(ctx, h, func(r run) (bool, error) {
+		matches, _, err := r.verify(encoded, password, nil)
+		return matches, err
+	})
 }
 
 // VerifyAndUpdate is [VerifyAndUpdate] with the settings and the limits of the Hasher. If the context ends while the
@@ -111,100 +111,62 @@ func enqueue[T any](ctx context.Context, h *Hasher, call func(run) (T, error)) (
 	if h == nil || h.queue == nil {
 		return value, ErrNoHasher
 	}
-	buffer, err := h.queue.enter(ctx)
-	if err != nil {
+	if err := h.queue.enter(ctx); err != nil {
 		return value, err
 	}
-	defer h.queue.leave(buffer)
-	stop := new(int32)
-	if ctx.Done() != nil {
-		returned := make(chan struct{})
-		defer close(returned)
-		go func() {
-			select {
-			case <-ctx.Done():
-				atomic.StoreInt32(stop, 1)
-			case <-returned:
-			}
-		}()
+	defer h.queue.leave()
+	return stoppable(ctx, func(stop *int32) (T, error) {
+		return call(run{*h.settings, h.limits, h.queue.buffers, stop})
+	})
+}
+
+// stoppable makes a call, and passes it what stops it once the context ends, or nil if the context never ends.
+func stoppable[T any](ctx context.Context, call func(stop *int32) (T, error)) (T, error) {
+	if ctx.Done() == nil {
+		return call(nil)
 	}
-	value, err = call(run{*h.settings, h.limits, buffer, stop})
+	stop, returned := new(int32), make(chan struct{})
+	defer close(returned)
+	go func() {
+		select {
+		case <-ctx.Done():
+			atomic.StoreInt32(stop, 1)
+		case <-returned:
+		}
+	}()
+	value, err := call(stop)
 	if err == stopped && ctx.Err() != nil {
 		err = ctx.Err()
 	}
 	return value, err
 }
 
-// queue is what Hashers share: places to compute in, and the buffers that no place uses.
+// queue is what Hashers share: places to compute in, and the buffers of those who compute.
 type queue struct {
 	callers chan struct{} // has an item for each caller that computes or waits
 	places  chan struct{} // has an item for each caller that computes
-	idle    time.Duration
-
-	mutex     sync.Mutex
-	kept      []*buffer // the oldest first
-	isWatched bool      // whether a timer frees what is kept
+	buffers *buffers
 }
 
-// buffer is memory that the library allocated, or none. It is used for one call at a time, which clears it.
-type buffer struct {
-	memory []byte
-	since  time.Time // when the last call returned
-}
-
-// enter takes a place, and returns a kept buffer or, if there is none, an empty one.
-func (q *queue) enter(ctx context.Context) (*buffer, error) {
+func (q *queue) enter(ctx context.Context) error {
 	if err := ctx.Err(); err != nil {
-		return nil, err
+		return err
 	}
 	select {
 	case q.callers <- struct{}{}:
 	default:
-		return nil, ErrBusy
+		return ErrBusy
 	}
 	select {
 	case q.places <- struct{}{}: // callers that wait get a free place in the order in which they came
+		return nil
 	case <-ctx.Done():
 		<-q.callers
-		return nil, ctx.Err()
+		return ctx.Err()
 	}
-	q.mutex.Lock()
-	defer q.mutex.Unlock()
-	last := len(q.kept) - 1
-	if last < 0 {
-		return new(buffer), nil
-	}
-	newest := q.kept[last]
-	q.kept = q.kept[:last]
-	return newest, nil
 }
 
-// leave keeps the buffer, and then frees the place: there are no more buffers than places.
-func (q *queue) leave(b *buffer) {
-	q.mutex.Lock()
-	if len(b.memory) > 0 {
-		b.since = time.Now()
-		q.kept = append(q.kept, b)
-		if !q.isWatched {
-			q.isWatched = true
-			time.AfterFunc(q.idle, q.freeIdle)
-		}
-	}
-	q.mutex.Unlock()
+func (q *queue) leave() {
 	<-q.places
 	<-q.callers
-}
-
-// freeIdle frees the buffers that have been idle for long enough, and runs again when the next one is due.
-func (q *queue) freeIdle() {
-	q.mutex.Lock()
-	defer q.mutex.Unlock()
-	for len(q.kept) > 0 && time.Since(q.kept[0].since) >= q.idle {
-		q.kept[0].free()
-		q.kept = q.kept[1:]
-	}
-	q.isWatched = len(q.kept) > 0
-	if q.isWatched {
-		time.AfterFunc(q.idle-time.Since(q.kept[0].since), q.freeIdle)
-	}
 }

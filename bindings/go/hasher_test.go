@@ -1,13 +1,11 @@
 package argon2
 
 import (
-	"bytes"
 	"context"
 	"fmt"
 	"math"
 	"runtime"
 	"strings"
-	"sync"
 	"testing"
 	"time"
 )
@@ -44,18 +42,6 @@ func hold(t *testing.T, h *Hasher) (cancel func() error) {
 		return <-ended
 	}
 }
-
-// buffers returns the buffers that a Hasher keeps.
-func (h *Hasher) buffers() (found [][]byte) {
-	h.queue.mutex.Lock()
-	defer h.queue.mutex.Unlock()
-	for _, kept := range h.queue.kept {
-		found = append(found, kept.memory)
-	}
-	return found
-}
-
-func isZero(b []byte) bool { return bytes.Count(b, []byte{0}) == len(b) }
 
 func TestHasherUsesItsSettingsAndLimits(t *testing.T) {
 	s := small()
@@ -141,10 +127,10 @@ func TestNobodyIsTurnedAwayWhileNobodyWaits(t *testing.T) {
 	defer runtime.GOMAXPROCS(runtime.GOMAXPROCS(1))
 	for i := 0; i < 50; i++ {
 		h := must(NewHasher(small(), 1, 1))
-		buffer := must(h.queue.enter(ctx))
+		must(0, h.queue.enter(ctx))
 		waiting := start(ctx, h)
 		waitFor(t, "it waits", func() bool { return len(h.queue.callers) == 2 })
-		h.queue.leave(buffer)
+		h.queue.leave()
 		_, err := h.Hash(ctx, password)
 		if err2 := <-waiting; err != nil || err2 != nil {
 			t.Fatal(i, err, err2)
@@ -153,18 +139,14 @@ func TestNobodyIsTurnedAwayWhileNobodyWaits(t *testing.T) {
 	must(must(NewHasher(small(), math.MaxInt, math.MaxInt)).Hash(ctx, password))
 }
 
-func TestCancellationStopsAHashAndClearsItsBuffer(t *testing.T) {
+func TestCancellationStopsAHash(t *testing.T) {
 	h := must(NewHasher(small(), 1, 0))
 	for i := 0; i < 5; i++ {
 		cancel := hold(t, h)
 		time.Sleep(time.Duration(i) * 5 * time.Millisecond)
 		begun := time.Now()
-		if err := cancel(); err != context.Canceled || time.Since(begun) > 5*time.Second {
-			t.Error(err, time.Since(begun))
-		}
-		buffers := h.buffers()
-		if len(buffers) != 1 || len(buffers[0]) != 4096<<10 || !isZero(buffers[0]) || len(h.queue.places) != 0 {
-			t.Error("the buffer or the place is not back, or the buffer is not cleared")
+		if err := cancel(); err != context.Canceled || time.Since(begun) > 5*time.Second || len(h.queue.places) != 0 {
+			t.Error(err, time.Since(begun), len(h.queue.places))
 		}
 	}
 	waitFor(t, "no goroutine is left", func() bool { return runtime.NumGoroutine() < 5 })
@@ -180,66 +162,4 @@ func TestCancellationStopsAHashAndClearsItsBuffer(t *testing.T) {
 	if !matches || updated != "" || err != nil || cancellable.Err() == nil {
 		t.Error(matches, updated, err)
 	}
-}
-
-func TestBuffersAreClearedAndReused(t *testing.T) {
-	h := must(NewHasher(OWASP2(), 2, 100))
-	h.queue.idle = time.Hour // on a slow machine this test takes longer than ten seconds
-	var group sync.WaitGroup
-	for i := 0; i < 20; i++ {
-		group.Add(1)
-		go func() {
-			defer group.Done()
-			must(h.Hash(ctx, password))
-		}()
-	}
-	group.Wait()
-	buffers := h.buffers()
-	if len(buffers) == 0 || len(buffers) > 2 {
-		t.Error(len(buffers), "buffers for two hashes at a time")
-	}
-	for i, c := range []struct {
-		stored, settings Settings
-		kib              int
-	}{
-		{OWASP1(), OWASP2(), 19456}, // a costly stored hash does not change the buffers
-		{small(), small(), 19456}, {OWASP2(), OWASP2(), 19456}, {OWASP1(), OWASP1(), 47104}, {small(), small(), 47104},
-	} {
-		h, last := h.With(c.settings), h.buffers()[len(buffers)-1]
-		last[0] = 1 // a hash in this buffer clears it
-		matches := must(h.Verify(ctx, must(Hash(password, c.stored)), password))
-		must(h.Hash(ctx, password))
-		found := h.buffers()
-		used := found[len(found)-1]
-		if !matches || len(used) != c.kib<<10 || len(used) == len(last) && &used[0] != &last[0] {
-			t.Error(i, matches, len(used))
-		}
-		for _, buffer := range found {
-			if !isZero(buffer) {
-				t.Error(i, "a buffer is not cleared")
-			}
-		}
-	}
-	if _, err := h.With(Settings{}).Hash(ctx, password); err == nil || len(h.buffers()) != len(buffers) {
-		t.Error("rejected settings change the buffers", err)
-	}
-}
-
-func TestIdleBuffersAreFreed(t *testing.T) {
-	h := must(NewHasher(small(), 2, 0))
-	h.queue.idle = time.Second
-	cancel := hold(t, h)
-	for i := 0; i < 2; i++ {
-		must(h.Hash(ctx, password))
-		time.Sleep(h.queue.idle / 2) // the buffer is not idle for long enough when the timer of this hash fires
-		begun := time.Now()
-		if must(h.Hash(ctx, password)); len(h.buffers()) != 1 {
-			t.Error(len(h.buffers()))
-		}
-		waitFor(t, "the buffer is freed", func() bool { return len(h.buffers()) == 0 })
-		if took := time.Since(begun); took < h.queue.idle || took > 10*time.Second {
-			t.Error(took)
-		}
-	}
-	cancel()
 }

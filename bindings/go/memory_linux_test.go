@@ -4,8 +4,10 @@ import (
 	"fmt"
 	"math"
 	"os"
+	"runtime"
 	"runtime/debug"
 	"strings"
+	"sync"
 	"syscall"
 	"testing"
 	"time"
@@ -18,7 +20,7 @@ func kib(name string) (number uint64) {
 	return number
 }
 
-// TestMemoryDoesNotGrow measures 10,200 calls, and more in buffers that are replaced and freed.
+// TestMemoryDoesNotGrow measures 10,200 calls, and Hashers that are forgotten with their buffers.
 func TestMemoryDoesNotGrow(t *testing.T) {
 	h, larger := must(NewHasher(small(), 2, 0)), small(func(s *Settings) { s.Memory = 128 })
 	calls := func(count int) {
@@ -26,8 +28,11 @@ func TestMemoryDoesNotGrow(t *testing.T) {
 			must(Verify(must(h.Hash(ctx, password)), password))
 			must(HashRaw(password, password, small()))
 			if i%10 == 0 {
+				must(NewHasher(small(), mostBuffers, 0)) // (16 KiB for the places of its buffers)
+			}
+			if i%200 == 0 {
+				runtime.GC()
 				other := must(NewHasher(small(), 1, 0))
-				other.queue.idle = 20 * time.Millisecond // the timer fires after the second hash replaced the buffer
 				must(other.Hash(ctx, password))
 				must(other.With(larger).Hash(ctx, password))
 			}
@@ -43,13 +48,40 @@ func TestMemoryDoesNotGrow(t *testing.T) {
 	}
 }
 
+// TestBuffersAreKeptAndFreedByATimer makes no call while it waits for the timer of a burst of hashes.
+func TestBuffersAreKeptAndFreedByATimer(t *testing.T) {
+	h := must(NewHasher(small(func(s *Settings) { s.Memory = 128 << 10 }), 2, 100))
+	debug.FreeOSMemory()
+	before, begun := kib("VmRSS:"), time.Now()
+	var group sync.WaitGroup
+	for i := 0; i < 8; i++ {
+		group.Add(1)
+		go func() {
+			defer group.Done()
+			must(h.Hash(ctx, password))
+		}()
+	}
+	group.Wait()
+	isKept := func() bool { return kib("VmRSS:") > before+40<<10 } // (timers of other tests may free some memory)
+	if !isKept() {
+		t.Error("no buffer is kept", before, kib("VmRSS:"))
+	}
+	waitFor(t, "the buffers are freed", func() bool { return !isKept() })
+	if took := time.Since(begun); took < idle {
+		t.Error("the buffers were freed after", took)
+	}
+	must(h.Hash(ctx, password))
+	if !isKept() {
+		t.Error("no buffer is kept after the timer")
+	}
+	waitFor(t, "the buffer is freed", func() bool { return !isKept() })
+	runtime.KeepAlive(h)
+}
+
 func TestDeniedMemoryIsAnError(t *testing.T) {
 	var limit syscall.Rlimit
 	must(0, syscall.Getrlimit(syscall.RLIMIT_AS, &limit))
 	before, h, encoded := limit, must(NewHasher(RFC9106LowMem(), 1, 0)), must(Hash(password, RFC9106LowMem()))
-	if must(h.With(small()).Hash(ctx, password)); len(h.buffers()) != 1 {
-		t.Fatal("there is no buffer")
-	}
 	limit.Cur = (kib("VmSize:") + 32<<10) << 10
 	must(0, syscall.Setrlimit(syscall.RLIMIT_AS, &limit))
 	var errs [5]error
@@ -62,7 +94,7 @@ func TestDeniedMemoryIsAnError(t *testing.T) {
 	invalid := small(func(s *Settings) { s.Time, s.SaltLength = 0, math.MaxUint32 })
 	_, one := Hash(password, invalid)
 	_, two := VerifyUnknown(password, invalid)
-	invalid.Memory, invalid.Lanes = leastMemory, 0
+	invalid.Memory, invalid.Lanes = OWASP5().Memory, 0
 	_, three := Tune(ctx, time.Minute, invalid)
 	must(0, syscall.Setrlimit(syscall.RLIMIT_AS, &before))
 	if one != ErrTimeTooSmall || two != ErrTimeTooSmall || three != ErrLanesTooFew {
@@ -73,10 +105,7 @@ func TestDeniedMemoryIsAnError(t *testing.T) {
 			t.Error(i, err)
 		}
 	}
-	if len(h.buffers()) != 0 {
-		t.Error("the buffer that was too small is still there")
-	}
-	if !must(h.Verify(ctx, encoded, password)) || len(h.buffers()) != 1 {
-		t.Error("there is no match, or no buffer")
+	if !must(h.Verify(ctx, encoded, password)) {
+		t.Error("there is no match")
 	}
 }

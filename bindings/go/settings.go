@@ -69,14 +69,6 @@ func (s Settings) Format(state fmt.State, _ rune) {
 		s.Variant, s.Version, s.Memory, s.Time, s.Lanes, s.Threads, s.SaltLength, s.HashLength)
 }
 
-// threads returns how many threads may fill the lanes: Threads, capped at the argument most, or most if Threads is 0.
-func (s Settings) threads(most uint32) uint32 {
-	if s.Threads == 0 || s.Threads > most {
-		return most
-	}
-	return s.Threads
-}
-
 // Limits are the highest memory, passes and lanes that an encoded hash may name, and the highest product of memory and
 // passes. A hash above a limit is not computed: [ErrTooCostly].
 type Limits struct {

@@ -1,6 +1,7 @@
 // The program makes the calls that standard input names, over the library of codes.c. It prints what each call returned
-// and what the library saw, which test_go.py checks. A line of input is a call's name, whether a Hasher makes it, and
-// the arguments of set_answers.
+// and what the library saw, which test_go.py checks. A line of input is a call's name, who makes it, and the arguments
+// of set_answers. A function of the package makes it, or a Hasher, with a context that may end (stoppable) or with one
+// that never ends (hasher).
 package main
 
 // #include <stdint.h>
@@ -29,8 +30,13 @@ var (
 	}
 )
 
-func call(hasher *argon2.Hasher, name string, isHasher bool) (value any, err error) {
-	ctx := context.Background()
+func call(hasher *argon2.Hasher, name, caller string) (value any, err error) {
+	ctx, isHasher := context.Background(), caller != "function"
+	if caller == "stoppable" {
+		stoppable, cancel := context.WithCancel(ctx)
+		defer cancel()
+		ctx = stoppable
+	}
 	switch {
 	case name == "hash_raw":
 		value, err = argon2.HashRaw(word, []byte("somesalt"), settings)
@@ -72,19 +78,18 @@ func printable(letter rune) rune {
 
 func main() {
 	for lines := bufio.NewScanner(os.Stdin); lines.Scan(); {
-		var name string
-		var isHasher bool
+		var name, caller string
 		var n [5]C.uint32_t
-		if _, err := fmt.Sscan(lines.Text(), &name, &isHasher, &n[0], &n[1], &n[2], &n[3], &n[4]); err != nil {
+		if _, err := fmt.Sscan(lines.Text(), &name, &caller, &n[0], &n[1], &n[2], &n[3], &n[4]); err != nil {
 			panic(err)
 		}
-		C.set_answers(0, 0, 0, 0, 0) // the settings are valid
+		C.set_answers(0, 0, 0, 0, 1024) // the settings are valid
 		hasher, err := argon2.NewHasher(settings, 1, 0)
 		if err != nil {
 			panic(err)
 		}
 		C.set_answers(n[0], n[1], n[2], n[3], n[4])
-		value, err := call(hasher, name, isHasher)
+		value, err := call(hasher, name, caller)
 		if number, ok := err.(argon2.Error); ok {
 			value = fmt.Sprintf("%v, error %d", value, number)
 		}

@@ -200,9 +200,11 @@ def test_threads_that_are_denied_change_no_hash(module, env, drawn, tmp_path):
 
 # ---- each number of the library, over the stubs of codes.c
 
-# The calls of codes.txt that Go has. False: a function of the package makes the call. True: a Hasher's method makes it.
-CALLS = {"hash_raw": [False], "hash_encoded": [False, True], "verify_encoded_alone": [False],
-         "verify_encoded_within": [True], "needs_rehash": [False]}
+# The calls of codes.txt that Go has, and who makes them in codes.go.
+CALLS = {"hash_raw": ["function"], "hash_encoded": ["function", "hasher", "stoppable"],
+         "verify_encoded_alone": ["function"], "verify_encoded_within": ["hasher", "stoppable"],
+         "needs_rehash": ["function"]}
+MOST_THREADS = 0xFFFFFFFF
 VALUES = {"tag": "xxxxx", "text": 12 * "x", "true": "true", "false": "false"}
 
 
@@ -216,7 +218,7 @@ def ask(env, tmp_path_factory):
     run("go", "build", "-o", folder / "answers", cwd=made, env=env)
 
     def ask(calls):
-        lines = [" ".join(map(str, (name, str(is_hasher).lower(), *numbers))) for name, is_hasher, numbers in calls]
+        lines = [" ".join(map(str, (name, caller, *numbers))) for name, caller, numbers in calls]
         return [line.split("|", 9) for line in run(folder / "answers", input="\n".join(lines)).splitlines()]
 
     return ask
@@ -226,26 +228,26 @@ def outcome(codes, number):
     """Returns what codes.go prints of a call for which the library returned this number."""
     if codes.values.get(number) in VALUES:
         return VALUES[codes.values[number]]
+    if codes.name.startswith("verify") and number == HEADER["NEEDS_REHASH"]:
+        return "true"
     error = HEADER["DECODING_FAIL"] if number == HEADER["NOT_ASCII"] else number
     return f"{'' if codes.name.startswith('hash') else 'false'}, error {error}"
 
 
-@pytest.mark.parametrize("name, is_hasher", [(name, how) for name, hows in CALLS.items() for how in hows])
-def test_each_call_returns_for_each_number_what_the_table_says(ask, name, is_hasher):
-    """It passes its arguments in order, and computes in a buffer if a Hasher makes it."""
+@pytest.mark.parametrize("name, caller", [(name, caller) for name, callers in CALLS.items() for caller in callers])
+def test_each_call_returns_for_each_number_what_the_table_says(ask, name, caller):
+    """It passes its arguments in order. A Hasher passes its buffers, and a callback only if its context may end."""
     codes = CODES[name]
     cases = [(place, number) for place in codes.places for number in NUMBERS]
-    said = ask((name, is_hasher, (number * (place == "check"), number * (place == "then"), 0, 0, 1024))
+    said = ask((name, caller, (number * (place == "check"), number * (place == "then"), 0, 0, 1024))
                for place, number in cases)
     for (place, number), (value, *seen) in zip(cases, said, strict=True):
         computes = bool(codes.computing) and (place == "then" or number == 0)
-        is_buffered = computes and is_hasher
-        is_short = number == HEADER["OUT_OF_MEMORY"]  # then the call allocates its own memory
-        threads = 1 if codes.hashes or is_hasher else 16  # a function that verifies has no settings
+        threads = MOST_THREADS if name == "verify_encoded_alone" else 1  # Verify has no settings
+        buffer, progress = 65536 if caller != "function" else -1, 0 if caller == "stoppable" else -1
         assert value == outcome(codes, number), (place, number)
         assert seen[:4] == [str(part) for part in (
-            threads * computes, 65536 if is_buffered and not is_short else -1, 0 if is_buffered else -1,
-            int(is_buffered))], (place, number)
+            (threads, buffer, progress, 0) if computes else (0, -1, -1, 0))], (place, number)
         assert seen[6] == codes.judging
         if computes:
             words = codes.computing
@@ -255,20 +257,14 @@ def test_each_call_returns_for_each_number_what_the_table_says(ask, name, is_has
             assert seen[8].startswith(before) and (seen[8] == before or after), seen
 
 
-@pytest.mark.parametrize("is_hasher", [False, True])
-def test_a_login_of_an_unknown_user_computes_one_hash_with_as_many_threads_as_a_verification(ask, is_hasher):
-    numbers = [0, HEADER["OUT_OF_MEMORY"], HEADER["OLD_PROCESSOR"]]
-    said = ask(("verify_unknown", is_hasher, (0, number, 0, 0, 1024)) for number in numbers)
-    assert [(line[0], line[1], line[9]) for line in said] == [
-        (value, "16", "raw word  key data 2 19 64 3 20 5")
+@pytest.mark.parametrize("caller, buffer, progress", [("function", -1, -1), ("hasher", 65536, -1),
+                                                      ("stoppable", 65536, 0)])
+def test_a_login_of_an_unknown_user_is_the_librarys_call(ask, caller, buffer, progress):
+    numbers = [HEADER["MISMATCH"], HEADER["OUT_OF_MEMORY"], HEADER["OLD_PROCESSOR"]]
+    said = ask(("verify_unknown", caller, (0, number, 0, 0, 1024)) for number in numbers)
+    assert [(line[0], line[1:4], line[9]) for line in said] == [
+        (value, [str(MOST_THREADS), str(buffer), str(progress)], "unknown word key 2 19 64 3 20 5")
         for value in ("false", *(f"false, error {number}" for number in numbers[1:]))]
-
-
-def test_a_denied_buffer_is_replaced_by_memory_of_the_call(ask):
-    number = HEADER["OUT_OF_MEMORY"]
-    for name in ("hash_encoded", "verify_encoded_within", "verify_unknown"):
-        (line,) = ask([(name, True, (0, number, 0, number, 1024))])
-        assert line[0].endswith(f"error {number}") and line[2:3] + line[4:7] == ["-1", "1", "0", "0"], line
 
 
 # ---- programs

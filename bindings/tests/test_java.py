@@ -19,22 +19,15 @@ CODES_OF_JAVA = """#include <jni.h>
 #include "proved_argon2.h"
 void set_answers(uint32_t check, uint32_t then, uint32_t read, uint32_t memory, uint32_t kib);
 const char *seen(void);
-static uint32_t answer;
 JNIEXPORT void JNICALL Java_proved_argon2_CodesTest_set(JNIEnv *env, jclass class, jint check, jint then, jint read);
 JNIEXPORT void JNICALL Java_proved_argon2_CodesTest_set(JNIEnv *env, jclass class, jint check, jint then, jint read)
 {
     if (env != NULL && class != NULL) set_answers((uint32_t)check, (uint32_t)then, (uint32_t)read, 0, 1024);
-    answer = (uint32_t)then;
 }
 JNIEXPORT jstring JNICALL Java_proved_argon2_CodesTest_seen(JNIEnv *env, jclass class);
 JNIEXPORT jstring JNICALL Java_proved_argon2_CodesTest_seen(JNIEnv *env, jclass class)
 {
     return class == NULL ? NULL : (*env)->NewStringUTF(env, seen());
-}
-uint32_t proved_argon2_password_verify_unknown(const proved_argon2_options *options,
-    const proved_argon2_settings *settings, const void *password, size_t length, const uint8_t *pepper, size_t len)
-{
-    return options != NULL && settings != NULL && password != NULL && pepper != NULL && length + len == 7 ? answer : 0;
 }
 """
 # Denies what the name of a file in $DENIED says: `threads`, `memory` (16 MiB or more), or `once` the next such memory.
