@@ -28,7 +28,7 @@ struct array {
     uint8_t bytes[LARGEST];
 };
 
-typedef jint make_call(JNIEnv *, jclass, jint, jintArray, jlongArray, jlongArray, jobject, jbyteArray, jbyteArray,
+typedef jint make_call(JNIEnv *, jclass, jint, jintArray, jlongArray, jlong, jobject, jbyteArray, jbyteArray,
     jbyteArray, jbyteArray, jbyteArray);
 
 static int asked;
@@ -119,11 +119,11 @@ static bool is_right(make_call *make)
     const jbyteArray salt = array_of(&of[4], 1, "somesalt", 8);
     const jbyteArray none = array_of(&of[5], 1, "", 0), text = array_of(&of[6], 1, "", 0);
     of[6].length = sizeof ENCODED;
-    const jint code = make(&of_thread, class, HASH, settings, most, NULL, stops, password, salt, none, none, text);
+    const jint code = make(&of_thread, class, HASH, settings, most, 0, stops, password, salt, none, none, text);
     if (code != OK || strcmp((char *)of[6].bytes, ENCODED) != 0 || asked != 1 + 8) return false;
     of[6].length = sizeof ENCODED - 1;
-    return make(&of_thread, class, VERIFY, settings, most, NULL, stops, password, none, none, none, text) == OK
-        && make(&of_thread, class, VERIFY, settings, most, NULL, stops, wrong, none, none, none, text) == MISMATCH;
+    return make(&of_thread, class, VERIFY, settings, most, 0, stops, password, none, none, none, text) == OK
+        && make(&of_thread, class, VERIFY, settings, most, 0, stops, wrong, none, none, none, text) == MISMATCH;
 }
 
 int main(int argc, char **argv)

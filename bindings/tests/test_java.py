@@ -30,7 +30,7 @@ JNIEXPORT jstring JNICALL Java_proved_argon2_CodesTest_seen(JNIEnv *env, jclass 
     return class == NULL ? NULL : (*env)->NewStringUTF(env, seen());
 }
 """
-# Denies what the name of a file in $DENIED says: `threads`, `memory` (16 MiB or more), or `once` the next such memory.
+# Denies what the name of a file in $DENIED says: `threads`, or `memory` (16 MiB or more).
 DENYING = """#define _GNU_SOURCE
 #include <dlfcn.h>
 #include <errno.h>
@@ -39,20 +39,16 @@ DENYING = """#define _GNU_SOURCE
 #include <stdlib.h>
 #include <sys/mman.h>
 #include <unistd.h>
-static int has(const char *name, int (*is_there)(const char *))
+static int is_denied(const char *name)
 {
     char path[4096];
     snprintf(path, sizeof path, "%s/%s", getenv("DENIED"), name);
-    return is_there(path) == 0;
-}
-static int look(const char *path)
-{
-    return access(path, F_OK);
+    return access(path, F_OK) == 0;
 }
 void *mmap(void *at, size_t length, int rights, int flags, int file, off_t offset)
 {
     __typeof__(mmap) *const own = (__typeof__(mmap) *)dlsym(RTLD_NEXT, "mmap");
-    if (length < 16 << 20 || rights == PROT_NONE || !(has("memory", look) || has("once", unlink)))
+    if (length < 16 << 20 || rights == PROT_NONE || !is_denied("memory"))
         return own(at, length, rights, flags, file, offset);
     errno = ENOMEM;
     return MAP_FAILED;
@@ -60,7 +56,7 @@ void *mmap(void *at, size_t length, int rights, int flags, int file, off_t offse
 int pthread_create(pthread_t *thread, const pthread_attr_t *with, void *(*call)(void *), void *arg)
 {
     __typeof__(pthread_create) *const own = (__typeof__(pthread_create) *)dlsym(RTLD_NEXT, "pthread_create");
-    return has("threads", look) ? EAGAIN : own(thread, with, call, arg);
+    return is_denied("threads") ? EAGAIN : own(thread, with, call, arg);
 }
 """
 # A copy of Spring's interface, and the adapter of the page.
@@ -129,7 +125,7 @@ USUAL = "--exclude-tag", "codes", "--exclude-tag", "denied"
 
 
 def test_its_own_tests_pass_in_java_17(jar, classes, drawn):
-    passes(68, "java", *words_of(jar, classes, drawn, *USUAL))
+    passes(67, "java", *words_of(jar, classes, drawn, *USUAL))
 
 
 @pytest.fixture(scope="module")
@@ -147,7 +143,7 @@ def system(tmp_path_factory):
 def test_its_own_tests_pass_in_newer_java(jar, classes, drawn, system, version):
     folders = TOP, jar.parent, drawn["RANDOM_HASHES"].parent, "/usr/share/java", "/usr/share/maven-repo"
     java = f"/usr/lib/jvm/java-{version}-openjdk-amd64/bin/java"
-    passes(68, "unshare", "--mount", "--propagation", "private", "bash", "-euc", ELSEWHERE, "bash", system, *folders,
+    passes(67, "unshare", "--mount", "--propagation", "private", "bash", "-euc", ELSEWHERE, "bash", system, *folders,
            "--", java, *words_of(jar, classes, drawn, *USUAL))
 
 
@@ -162,7 +158,7 @@ def test_its_own_tests_pass_on_arm64(classes, drawn, tmp_path):
     run(JAVA / "pack", jar, built("aarch64") / "aarch64", env=DATED)
     java = root / "usr/lib/jvm/java-17-openjdk-arm64/bin/java"
     words = words_of(jar, classes, drawn, *USUAL, "--exclude-tag", "terabytes")
-    passes(67, "qemu-aarch64-static", "-L", root, java, *words)
+    passes(66, "qemu-aarch64-static", "-L", root, java, *words)
 
 
 def test_each_public_member_is_documented(tmp_path):
@@ -195,7 +191,7 @@ def headers():
 def test_denied_memory_and_threads(jar, classes, drawn, tmp_path):
     (tmp_path / "denying.c").write_text(DENYING)
     run(CC, "-shared", "-fPIC", "-Wall", "-Wextra", "-Werror", tmp_path / "denying.c", "-o", tmp_path / "denying.so")
-    passes(5, "java", *words_of(jar, classes, drawn, "--include-tag", "denied"),
+    passes(4, "java", *words_of(jar, classes, drawn, "--include-tag", "denied"),
            env={"LD_PRELOAD": tmp_path / "denying.so", "DENIED": tmp_path})
 
 

@@ -1,5 +1,5 @@
-/* The calls of the library for Java. Only the package's own class Native makes them. It passes null only for a buffer,
- * and for what stops a call. Arrays are copied, since the garbage collector may move them while a hash is computed, and
+/* The calls of the library for Java. Only the package's own class Native makes them. It passes null only for what stops
+ * a call. Arrays are copied, since the garbage collector may move them while a hash is computed, and
  * copies are cleared. This is tested, not proved. */
 #include <jni.h>
 #include <proved_argon2.h>
@@ -88,38 +88,25 @@ static bool ask_caller(caller *self, proved_argon2_options *options)
     return self->get != NULL && !must_stop(self, 0, 0);
 }
 
-static void free_kept(jlong *kept)
+static proved_argon2_buffers *buffers_of(jlong handle)
 {
-    proved_argon2_memory_free((void *)(intptr_t)kept[0], (size_t)kept[1]);
-    kept[0] = kept[1] = 0;
+    return (proved_argon2_buffers *)(intptr_t)handle;
 }
 
-/* Lets a hash of `needed` bytes use the thread's buffer. If the buffer is too small for the hasher's settings, a
- * new one takes its place. A hash that needs more, or is denied a buffer, allocates its own memory. */
-static void use_kept(JNIEnv *env, jlongArray array, uint64_t needed, proved_argon2_options *options)
+/* Whether an encoded hash has other settings, or a salt of another length. */
+static uint32_t needs_rehash(const bytes *of, const proved_argon2_options *today)
 {
-    jlong kept[2];
-    if (array == NULL) return;
-    (*env)->GetLongArrayRegion(env, array, 0, 2, kept);
-    if ((uint64_t)kept[1] < proved_argon2_memory_len(options->new_settings)) {
-        void *memory = NULL;
-        size_t len = 0;
-        free_kept(kept);
-        if (proved_argon2_memory_new(options->new_settings, &memory, &len) == PROVED_ARGON2_OK) {
-            kept[0] = (jlong)(intptr_t)memory;
-            kept[1] = (jlong)len;
-        }
-        (*env)->SetLongArrayRegion(env, array, 0, 2, kept);
-    }
-    if ((uint64_t)kept[1] >= needed) {
-        options->memory = (void *)(intptr_t)kept[0];
-        options->memory_len = (size_t)kept[1];
-    }
+    proved_argon2_stored stored = {0};
+    uint32_t code = proved_argon2_needs_rehash((char *)of[TEXT].at, of[TEXT].len, today->new_settings);
+    if (code == PROVED_ARGON2_OK) code = proved_argon2_read((char *)of[TEXT].at, of[TEXT].len, &stored);
+    const bool has_other_salt = code == PROVED_ARGON2_OK && stored.salt_length != today->new_salt_len;
+    return has_other_salt ? PROVED_ARGON2_NEEDS_REHASH : code;
 }
 
-/* Hashes or verifies, with copied inputs. */
+/* Makes a call, with copied inputs. */
 static uint32_t compute(jint call, const proved_argon2_options *options, const bytes *of)
 {
+    if (call == NEEDS_REHASH) return needs_rehash(of, options);
     if (call == VERIFY)
         return proved_argon2_verify_encoded_with(
             options, (char *)of[TEXT].at, of[TEXT].len, BYTES(PASSWORD), BYTES(PEPPER), BYTES(DATA));
@@ -144,42 +131,60 @@ CALL(jlong, encodedLength, jintArray settings)
     return (jlong)proved_argon2_encoded_len(&of.settings, of.salt_length);
 }
 
-CALL(jint, make, jint call, jintArray settings, jlongArray limits, jlongArray kept, jobject is_stopped,
+CALL(jint, make, jint call, jintArray settings, jlongArray limits, jlong buffers, jobject is_stopped,
     jbyteArray password, jbyteArray salt, jbyteArray pepper, jbyteArray data, jbyteArray text)
 {
     const proved_argon2_stored new_settings = settings_of(env, settings);
     const proved_argon2_limits within = limits_of(env, limits);
     caller self = {env, is_stopped, NULL};
-    proved_argon2_options options = {
-        .size = sizeof options, .threads = UINT32_MAX, .limits = &within, .new_settings = &new_settings.settings};
-    proved_argon2_stored stored = new_settings;
+    proved_argon2_options options = {.size = sizeof options,
+        .threads = UINT32_MAX,
+        .limits = &within,
+        .new_settings = &new_settings.settings,
+        .buffers = buffers_of(buffers),
+        .new_salt_len = new_settings.salt_length};
     bytes of[ARRAYS] = {{NULL, 0}};
     uint32_t code = PROVED_ARGON2_OUT_OF_MEMORY;
     if (!ask_caller(&self, &options)) return PROVED_ARGON2_STOPPED;
     if (copy(env, (jbyteArray[]){password, salt, pepper, data, text}, of)) {
-        const bool reads = call == VERIFY || call == NEEDS_REHASH;
-        code = reads ? proved_argon2_read((char *)of[TEXT].at, of[TEXT].len, &stored) : PROVED_ARGON2_OK;
-    }
-    if (code == PROVED_ARGON2_OK && call == NEEDS_REHASH) {
-        code = proved_argon2_needs_rehash((char *)of[TEXT].at, of[TEXT].len, &new_settings.settings);
-    } else if (code == PROVED_ARGON2_OK) {
-        use_kept(env, kept, proved_argon2_memory_len(&stored.settings), &options);
         code = compute(call, &options, of);
     }
     if (code == PROVED_ARGON2_OK && (call == HASH || call == HASH_RAW)) {
         (*env)->SetByteArrayRegion(env, text, 0, (jsize)of[TEXT].len, (const jbyte *)of[TEXT].at);
     }
     discard(of);
-    const bool has_other_salt = code == PROVED_ARGON2_OK && stored.salt_length != new_settings.salt_length;
-    return (jint)(has_other_salt ? PROVED_ARGON2_NEEDS_REHASH : code);
+    return (jint)code;
 }
 
-CALL(void, free, jlongArray array)
+CALL(jint, tune, jintArray settings, jlong nanoseconds, jobject is_stopped, jlongArray found)
 {
-    jlong kept[2];
-    (*env)->GetLongArrayRegion(env, array, 0, 2, kept);
-    free_kept(kept);
-    (*env)->SetLongArrayRegion(env, array, 0, 2, kept);
+    const proved_argon2_stored most = settings_of(env, settings);
+    caller self = {env, is_stopped, NULL};
+    proved_argon2_options options = {.size = sizeof options, .threads = UINT32_MAX};
+    proved_argon2_tuning tuning = {0};
+    if (!ask_caller(&self, &options)) return PROVED_ARGON2_STOPPED;
+    const uint32_t code = proved_argon2_tune(&options, &most.settings, (uint64_t)nanoseconds, &tuning);
+    const jlong numbers[] = {tuning.settings.mem_cost, tuning.settings.time_cost, (jlong)tuning.nanoseconds};
+    (*env)->SetLongArrayRegion(env, found, 0, 3, numbers);
+    return (jint)code;
+}
+
+CALL(jlong, newBuffers, jintArray settings, jint most)
+{
+    const proved_argon2_stored of = settings_of(env, settings);
+    proved_argon2_buffers *buffers = NULL;
+    const uint32_t code = proved_argon2_buffers_new(&of.settings, (uint32_t)most, &buffers);
+    return code == PROVED_ARGON2_OK ? (jlong)(intptr_t)buffers : 0;
+}
+
+CALL(void, freeIdle, jlong buffers)
+{
+    if (env != NULL) (void)proved_argon2_buffers_free_idle(buffers_of(buffers));
+}
+
+CALL(void, freeBuffers, jlong buffers)
+{
+    if (env != NULL) proved_argon2_buffers_free(buffers_of(buffers));
 }
 
 CALL(jstring, message, jint number)

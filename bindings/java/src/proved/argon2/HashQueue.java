@@ -1,6 +1,7 @@
 package proved.argon2;
 
 import java.time.Duration;
+import java.util.Map;
 import java.util.Set;
 import java.util.concurrent.CancellationException;
 import java.util.concurrent.CompletableFuture;
@@ -17,9 +18,9 @@ import proved.argon2.Argon2Exception.Reason;
 /**
  * Limits how many hashes are computed at a time, and how many calls wait for that. Make one for the whole service.
  *
- * <p>Calls run in platform threads of the queue, each of which keeps the memory of its hashes for the next one. Each
- * hash clears what it used. A thread that has had no call for ten seconds frees the memory and ends. If the system
- * denies a thread, calls wait for the threads that there are.
+ * <p>Calls run in platform threads of the queue. Each hash clears its memory, which is kept for later hashes with the
+ * same settings, and freed if none has used it for ten seconds. A thread that has had no call for ten seconds ends. If
+ * the system denies a thread, calls wait for the threads that there are.
  *
  * <pre>{@code
  * CompletableFuture<Verdict<String>> login = queue.submit(() -> hasher.verifyAndUpdate(stored, password));
@@ -28,6 +29,8 @@ import proved.argon2.Argon2Exception.Reason;
 public final class HashQueue implements AutoCloseable {
     private static final Duration IDLE = Duration.ofSeconds(10);
     private static final int WAITING_FOR_EACH = 16;
+    /** The most kept buffers: each hash looks at all of them. */
+    private static final int MOST_BUFFERS = 1024;
 
     private final LinkedBlockingQueue<Task<?>> waiting = new LinkedBlockingQueue<>();
     /** The calls that compute or wait. */
@@ -38,6 +41,8 @@ public final class HashQueue implements AutoCloseable {
     private final Semaphore startable;
     private final int concurrency;
     private final Duration idle;
+    /** The library's kept buffers for hashes with these settings. */
+    private final Map<Settings, Long> buffers = new ConcurrentHashMap<>();
     /** Wakes the threads of a closed queue, each of which puts it back for the next one. */
     private final Task<?> end = new Task<>(null, null);
     private volatile boolean isClosed;
@@ -118,11 +123,29 @@ public final class HashQueue implements AutoCloseable {
         isClosed = true;
         tasks.forEach(task -> task.cancel(true));
         waiting.add(end);
+        freeBuffers();
     }
 
     /** What tells whether nobody waits for this thread's call any more, or null: then nothing can stop the call. */
     static BooleanSupplier stop() {
         return Thread.currentThread() instanceof Worker worker && worker.isCalling ? worker.task::isDone : null;
+    }
+
+    /** The kept buffers for a hash in this thread, or 0: then it allocates its own memory. */
+    static long buffersFor(Settings settings) {
+        return Thread.currentThread() instanceof Worker worker ? worker.task.queue().buffers(settings) : Native.NONE;
+    }
+
+    private long buffers(Settings settings) {
+        int most = Math.min(concurrency, MOST_BUFFERS);
+        return buffers.computeIfAbsent(settings, own -> Native.newBuffers(own.numbers(), most));
+    }
+
+    /** Frees the buffers of a closed queue, once, when it has no thread left that could use them. */
+    private void freeBuffers() {
+        if (isClosed && startable.tryAcquire(concurrency)) {
+            buffers.values().forEach(Native::freeBuffers);
+        }
     }
 
     private <T> CompletableFuture<T> enqueue(Task<T> task) {
@@ -221,8 +244,6 @@ public final class HashQueue implements AutoCloseable {
 
     /** A thread of the queue, which ends once it has had no call for a while. */
     final class Worker extends Thread {
-        /** The address and the length of the reusable buffer. */
-        final long[] kept = new long[2];
         /** The call that is made, or whose callbacks run, or null. */
         private Task<?> task;
         /** Whether it is made. What callbacks compute is never stopped. */
@@ -236,13 +257,10 @@ public final class HashQueue implements AutoCloseable {
         /** Makes calls, also those that were added after it had waited for long enough. */
         @Override
         public void run() {
-            try {
-                do {
-                    makeCalls();
-                } while (!isClosed && !waiting.isEmpty() && startable.tryAcquire());
-            } finally {
-                Native.free(kept);
-            }
+            do {
+                makeCalls();
+            } while (!isClosed && !waiting.isEmpty() && startable.tryAcquire());
+            freeBuffers();
         }
 
         private void makeCalls() {
@@ -252,12 +270,14 @@ public final class HashQueue implements AutoCloseable {
                     task = null; // an idle thread keeps no result
                 }
             } finally {
+                buffers.values().forEach(Native::freeIdle);
                 startable.release();
             }
         }
 
         /** Waits for a call, and returns null if the thread has to end. */
         private Task<?> next() {
+            buffers.values().forEach(Native::freeIdle);
             Thread.interrupted(); // callbacks may have left the thread interrupted
             try {
                 Task<?> task = waiting.poll(idle.toNanos(), TimeUnit.NANOSECONDS);

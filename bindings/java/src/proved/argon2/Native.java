@@ -12,6 +12,10 @@ final class Native {
     static final int OK = 0;
     static final int MISMATCH = 64;
     static final int NEEDS_REHASH = 68;
+    static final int TOO_COSTLY = 69;
+
+    /** No kept buffers. */
+    static final long NONE = 0;
 
     /** The calls of {@link #make}, in the order of proved_argon2_java.c. */
     enum Call { HASH, HASH_RAW, VERIFY, VERIFY_UNKNOWN, NEEDS_REHASH }
@@ -45,17 +49,25 @@ final class Native {
     static native long encodedLength(int[] settings);
 
     /**
-     * Makes a call. {@code HASH} writes the encoded hash, and a zero, to {@code text}, and {@code HASH_RAW} the raw hash;
-     * other calls read {@code text}. {@code VERIFY} returns {@link #NEEDS_REHASH} for a match with other settings or
-     * another length of the salt. {@code kept} is the address and the length of a reusable buffer, or null. If it is too
-     * small for the settings, a larger one takes its place. {@code isStopped} is called before each hash and after each
-     * slice; if it is null, nothing stops the call.
+     * Makes a call. {@code HASH} writes the encoded hash, and a zero, to {@code text}. {@code HASH_RAW} writes the raw
+     * hash. Other calls read {@code text}. {@code VERIFY} returns {@link #NEEDS_REHASH} for a match with other settings
+     * or another length of the salt. {@code buffers} is the handle of kept buffers, or {@link #NONE}. {@code isStopped}
+     * is called before each hash and after each slice. If it is null, nothing stops the call.
      */
-    static native int make(int call, int[] settings, long[] limits, long[] kept, BooleanSupplier isStopped,
+    static native int make(int call, int[] settings, long[] limits, long buffers, BooleanSupplier isStopped,
         byte[] password, byte[] salt, byte[] pepper, byte[] data, byte[] text);
 
-    /** Frees a reusable buffer. */
-    static native void free(long[] kept);
+    /** Searches for settings, and writes the memory, the passes and the nanoseconds of a hash to {@code found}. */
+    static native int tune(int[] settings, long nanoseconds, BooleanSupplier isStopped, long[] found);
+
+    /** Makes a handle of at most so many kept buffers, and returns it, or {@link #NONE} without memory for it. */
+    static native long newBuffers(int[] settings, int most);
+
+    /** Frees the kept buffers that have been idle for ten seconds. */
+    static native void freeIdle(long buffers);
+
+    /** Frees a handle and its buffers, which no call uses. */
+    static native void freeBuffers(long buffers);
 
     /** The message of an error. */
     static native String message(int number);

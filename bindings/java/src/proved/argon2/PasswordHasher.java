@@ -205,10 +205,9 @@ public class PasswordHasher {
         return call(Native.Call.VERIFY, password, NONE, text, Native.MISMATCH, Native.NEEDS_REHASH);
     }
 
-    /** Makes a call; a queue's thread uses its own buffer. A number other than 0 and these verdicts is an error. */
+    /** Makes a call. A number other than 0 and these verdicts is an error. */
     private int call(Native.Call call, byte[] password, byte[] salt, byte[] text, Integer... verdicts) {
-        long[] kept = Thread.currentThread() instanceof HashQueue.Worker worker ? worker.kept : null;
-        int number = Native.make(call.ordinal(), settings.numbers(), limits.numbers(), kept,
+        int number = Native.make(call.ordinal(), settings.numbers(), limits.numbers(), HashQueue.buffersFor(settings),
             HashQueue.stop(), Objects.requireNonNull(password), salt, pepper, associatedData, text);
         if (number != Native.OK && !List.of(verdicts).contains(number)) {
             throw Argon2Exception.of(number);

@@ -5,6 +5,7 @@ import static proved.argon2.Argon2Exception.Reason.*;
 import static proved.argon2.HashesTest.bytes;
 import static java.nio.charset.StandardCharsets.US_ASCII;
 
+import java.time.Duration;
 import java.util.*;
 import java.util.function.*;
 import java.util.stream.Stream;
@@ -44,7 +45,8 @@ class CodesTest {
                 Reason expected = number == NOT_ASCII ? DECODING_FAIL : reasonOf(digits);
                 Argon2Exception error = assertThrows(Argon2Exception.class, call::get, digits);
                 assertEquals(expected, error.reason());
-                String message = expected == UNEXPECTED ? ".*: " + digits : number == NOT_ASCII ? "N019" : "N0*" + digits;
+                String known = number == NOT_ASCII ? "N019" : "N0*" + digits;
+                String message = expected == UNEXPECTED ? ".*: " + digits : known;
                 assertTrue(error.getMessage().matches(message), error.getMessage());
             }
         }
@@ -61,6 +63,10 @@ class CodesTest {
         compare(values, number -> set(0, number, 0), call);
     }
 
+    private static String numbersOf(Tuning found) {
+        return "[" + found.settings().memory() + "," + found.settings().passes() + "]";
+    }
+
     private static String table(String name) {
         return System.getProperty("codes." + name);
     }
@@ -73,6 +79,8 @@ class CodesTest {
         compare(table("hash_encoded"), () -> hasher.hash(PASSWORD, bytes("somesalt")).replace("x".repeat(12), "text"));
         compare(table("verify_encoded_within") + " 68=true", () -> hasher.verify(STORED, PASSWORD));
         compare("0=false 64=false", () -> hasher.verifyUnknown(PASSWORD));
+        compare("0=[64,3] 69=none", () -> Tuning.tune(Duration.ofSeconds(1), new Settings(
+            Variant.ARGON2ID, Version.VERSION_13, 64, 3, 4, 5, 8)).map(CodesTest::numbersOf).orElse("none"));
         compare(table("needs_rehash"), () -> hasher.needsRehash(STORED));
         compare(table("needs_rehash"), number -> set(0, 0, number), () -> hasher.needsRehash(STORED));
     }
@@ -87,16 +95,17 @@ class CodesTest {
         assertTrue(seen().endsWith("|" + System.getProperty("passed.verify_encoded_within")), seen());
     }
 
-    /** (the second value that was seen is the buffer's length, or -1) */
+    /** (it saw the number of threads, the length of the buffers or -1, and what a callback said or -1) */
     @Test
-    void aThreadOfAQueueComputesInItsBuffer() {
+    void onlyAThreadOfAQueueHasBuffersAndCanBeStopped() {
         try (HashQueue queue = new HashQueue(1, 0)) {
-            for (Supplier<Object> call : List.<Supplier<Object>>of(
-                    () -> hasher.hash(PASSWORD), () -> hasher.verify(STORED, PASSWORD))) {
+            for (Supplier<Object> call : List.<Supplier<Object>>of(() -> hasher.hash(PASSWORD),
+                    () -> hasher.hashRaw(PASSWORD, bytes("somesalt")), () -> hasher.verify(STORED, PASSWORD),
+                    () -> hasher.verifyUnknown(PASSWORD))) {
                 call.get();
-                assertTrue(seen().startsWith("4294967295|-1|"), seen());
+                assertTrue(seen().startsWith("4294967295|-1|-1|"), seen());
                 queue.run(call);
-                assertTrue(seen().startsWith("4294967295|65536|"), seen());
+                assertTrue(seen().startsWith("4294967295|65536|0|"), seen());
             }
         }
     }

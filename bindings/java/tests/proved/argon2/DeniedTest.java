@@ -13,7 +13,7 @@ import java.util.concurrent.*;
 import java.util.concurrent.atomic.AtomicInteger;
 import org.junit.jupiter.api.*;
 
-/** While a file {@code memory} or {@code threads} exists, that is denied; a file {@code once} denies memory once. */
+/** While a file {@code memory} or {@code threads} exists, that is denied. */
 @Tag("denied")
 @Timeout(60)
 class DeniedTest {
@@ -30,21 +30,6 @@ class DeniedTest {
     void close() throws IOException {
         Files.deleteIfExists(FOLDER.resolve("threads"));
         queue.close();
-    }
-
-    private long kept() {
-        return queue.run(() -> {
-            assertFalse(hasher.verifyUnknown(new byte[0]));
-            return ((HashQueue.Worker) Thread.currentThread()).kept[1];
-        });
-    }
-
-    @Test
-    void withoutABufferACallAllocatesItsOwnMemory() throws IOException {
-        Path denied = deny("once");
-        assertEquals(0, kept());
-        assertFalse(Files.exists(denied));
-        assertEquals(32 << 20, kept());
     }
 
     @Test

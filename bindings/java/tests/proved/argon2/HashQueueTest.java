@@ -49,10 +49,6 @@ class HashQueueTest {
         return future;
     }
 
-    private static long[] kept() {
-        return ((HashQueue.Worker) Thread.currentThread()).kept.clone();
-    }
-
     static long threads() {
         return Thread.getAllStackTraces().keySet().stream().filter(HashQueue.Worker.class::isInstance).count();
     }
@@ -300,39 +296,24 @@ class HashQueueTest {
         soon(caller);
     }
 
-    @Test
-    void aThreadReusesItsBufferAndClearsIt() throws IOException, InterruptedException {
-        assertEquals(0, queue.run(HashQueueTest::kept)[1]);
-        queue.run(() -> hasher.hash("password".toCharArray()));
-        long[] small = queue.run(HashQueueTest::kept);
-        assertCleared(64 * 1024, small);
-        for (int call = 0; call < 5; call++) {
-            queue.run(() -> hasher.verifyUnknown(new byte[0]));
-            queue.run(() -> hasher.verify(STORED, new byte[0])); // needs more
-            assertArrayEquals(small, queue.run(HashQueueTest::kept));
-        }
-        HashQueue.Worker thread = (HashQueue.Worker) queue.run(Thread::currentThread);
-        CompletableFuture<String> stopped = computing();
-        await(() -> thread.kept[1] > small[1]);
-        TimeUnit.MILLISECONDS.sleep(20);
-        stopped.cancel(true);
-        assertCleared(1024 * 1024, soon(onceThereIsPlace(queue, HashQueueTest::kept)));
-    }
-
-    private static void assertCleared(int length, long[] kept) throws IOException {
-        assertEquals(length, kept[1]);
-        assertArrayEquals(new byte[length], MemoryTest.read(kept[0], length));
-    }
-
+    /** (neither before ten seconds are over, nor in a queue that is closed) */
     @Test
     void anIdleThreadEndsAndFreesItsBuffer() throws InterruptedException, IOException {
-        PasswordHasher large = new PasswordHasher(SMALL.withMemory(128 * 1024).withPasses(1));
-        long before = MemoryTest.kib("VmSize");
-        queue.run(() -> large.hash(new byte[0]));
-        assertTrue(threads() == 1 && MemoryTest.kib("VmSize") > before + 120 * 1024);
+        PasswordHasher large = new PasswordHasher(SMALL.withMemory(256 * 1024).withPasses(1));
+        HashQueue usual = new HashQueue(1, 1);
+        long before = MemoryTest.kib("VmRSS");
+        BooleanSupplier isKept = () -> MemoryTest.kib("VmRSS") > before + 180 * 1024; // (the heap may grow by 128 MiB)
+        usual.run(() -> large.hash(new byte[0]));
+        long begun = System.nanoTime();
+        assertTrue(isKept.getAsBoolean());
+        await(() -> !isKept.getAsBoolean());
+        assertTrue(System.nanoTime() - begun > 9_000_000_000L);
         await(() -> threads() == 0);
-        assertTrue(MemoryTest.kib("VmSize") < before + 100 * 1024, MemoryTest.kib("VmSize") + " " + before);
-        assertTrue(hasher.verify(queue.run(() -> hasher.hash(new byte[0])), new byte[0]));
+        usual.run(() -> large.hash(new byte[0]));
+        assertTrue(isKept.getAsBoolean());
+        usual.close();
+        await(() -> threads() == 0);
+        assertFalse(isKept.getAsBoolean());
     }
 
     @Test

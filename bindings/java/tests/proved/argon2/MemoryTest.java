@@ -9,6 +9,7 @@ import java.nio.file.*;
 import java.security.SecureRandom;
 import java.util.*;
 import java.util.function.Consumer;
+import java.util.stream.Stream;
 import org.junit.jupiter.api.Test;
 
 class MemoryTest {
@@ -18,20 +19,14 @@ class MemoryTest {
     private final PasswordHasher hasher = new PasswordHasher(SMALL);
     private final SecureRandom random = new SecureRandom();
 
-    /** The bytes at an address. */
-    static byte[] read(long address, int length) throws IOException {
-        try (RandomAccessFile memory = new RandomAccessFile("/proc/self/mem", "r")) {
-            byte[] bytes = new byte[length];
-            memory.seek(address);
-            memory.readFully(bytes);
-            return bytes;
-        }
-    }
-
     /** The KiB of a row of /proc/self/status. */
-    static long kib(String row) throws IOException {
-        return Files.readAllLines(Path.of("/proc/self/status")).stream().filter(line -> line.startsWith(row + ":"))
-            .mapToLong(line -> Long.parseLong(line.replaceAll("\\D", ""))).findAny().orElseThrow();
+    static long kib(String row) {
+        try (Stream<String> lines = Files.lines(Path.of("/proc/self/status"))) {
+            return lines.filter(line -> line.startsWith(row + ":"))
+                .mapToLong(line -> Long.parseLong(line.replaceAll("\\D", ""))).findAny().orElseThrow();
+        } catch (IOException error) {
+            throw new UncheckedIOException(error);
+        }
     }
 
     /** Whether writable memory contains some bytes. Their complement is passed, so that this call adds no copy. */
@@ -106,7 +101,7 @@ class MemoryTest {
     }
 
     @Test
-    void memoryDoesNotGrow() throws IOException {
+    void memoryDoesNotGrow() {
         byte[] password = new byte[16 * 1024];
         String stored = hasher.hash(password);
         long before = 0;

@@ -10,6 +10,7 @@ import org.junit.jupiter.api.*;
 import org.junit.jupiter.api.function.Executable;
 import org.junit.jupiter.params.ParameterizedTest;
 import org.junit.jupiter.params.provider.*;
+import proved.argon2.Argon2Exception.Reason;
 
 class PasswordHasherTest {
     static final Settings SMALL = Settings.owasp2().withMemory(64);
@@ -20,7 +21,7 @@ class PasswordHasherTest {
     private final byte[] password = bytes("password");
     private final PasswordHasher hasher = new PasswordHasher(SMALL);
 
-    static void assertFails(Argon2Exception.Reason reason, Executable call) {
+    static void assertFails(Reason reason, Executable call) {
         assertEquals(reason, assertThrows(Argon2Exception.class, call).reason());
     }
 
@@ -76,7 +77,7 @@ class PasswordHasherTest {
         "LANES_TOO_FEW, 64, 1, -1, 32, 16", "LANES_TOO_MANY, 64, 1, 16777216, 32, 16",
         "OUTPUT_TOO_SHORT, 64, 1, 1, 3, 16", "OUTPUT_TOO_SHORT, 64, 1, 1, -1, 16", "SALT_TOO_SHORT, 64, 1, 1, 32, 7",
         "SALT_TOO_SHORT, 64, 1, 1, 32, -1"})
-    void wrongSettingsAreRejected(Argon2Exception.Reason reason, int memory, int passes, int lanes, int hash, int salt) {
+    void wrongSettingsAreRejected(Reason reason, int memory, int passes, int lanes, int hash, int salt) {
         assertFails(reason, () -> settings(memory, passes, lanes, hash, salt));
     }
 
@@ -187,7 +188,7 @@ class PasswordHasherTest {
     private static int slices(Native.Call call, Settings settings, byte[] text) {
         int[] asked = new int[1];
         byte[] none = {};
-        int number = Native.make(call.ordinal(), settings.numbers(), Limits.DEFAULT.numbers(), null,
+        int number = Native.make(call.ordinal(), settings.numbers(), Limits.DEFAULT.numbers(), Native.NONE,
             () -> asked[0]++ < 0, none, none, none, none, text);
         assertEquals(Native.MISMATCH, number);
         return asked[0];

@@ -1,37 +1,36 @@
 package proved.argon2;
 
 import static org.junit.jupiter.api.Assertions.*;
+import static proved.argon2.Argon2Exception.Reason.*;
 
-import java.io.IOException;
-import java.nio.file.*;
 import java.time.Duration;
-import java.util.List;
 import org.junit.jupiter.api.Test;
 
 class TuningTest {
-    /** A row: milliseconds, KiB and a power, and then the memory and the passes that are found, or nothing. */
-    private static void compare(String row) {
-        String[] words = row.split(" ");
-        int power = Integer.parseInt(words[2]);
-        Settings most = Settings.owasp2().withMemory(Integer.parseInt(words[1]));
-        String found = Tuning.search(Double.parseDouble(words[0]), most,
-            settings -> 3 * (settings.memory() / 1024.0) * Math.pow(settings.passes(), power))
-            .map(tuning -> " " + tuning.settings().memory() + " " + tuning.settings().passes()).orElse("");
-        assertEquals(row, String.join(" ", List.of(words).subList(0, 3)) + found);
-    }
-
-    @Test
-    void whatTheTableSaysIsFound() throws IOException {
-        List<String> rows = Files.readAllLines(Path.of(System.getProperty("tables"), "tunings.txt"));
-        assertEquals(16, rows.stream().filter(row -> !row.startsWith("#")).peek(TuningTest::compare).count());
-    }
+    private static final Settings MOST = new Settings(Variant.ARGON2I, Version.VERSION_10, 8192, 1, 2, 24, 12);
 
     @Test
     void hashesAreMeasuredOnThisMachine() {
-        Tuning found = Tuning.tune(Duration.ofSeconds(60), Settings.owasp2().withMemory(8192)).orElseThrow();
-        assertEquals(Settings.owasp2().withMemory(8192).withPasses(Limits.DEFAULT.passes()), found.settings());
-        assertTrue(found.milliseconds() > 0 && found.load().isPresent());
-        assertTrue(Tuning.tune(Duration.ZERO, Settings.owasp2()).isEmpty());
-        assertTrue(Tuning.tune(Duration.ofSeconds(Long.MIN_VALUE), Settings.owasp2()).isEmpty());
+        for (Duration within : new Duration[] {Duration.ofSeconds(60), Duration.ofSeconds(Long.MAX_VALUE)}) {
+            Tuning found = Tuning.tune(within, MOST).orElseThrow();
+            assertEquals(MOST.withPasses(Limits.DEFAULT.passes()), found.settings());
+            assertTrue(found.milliseconds() > 0 && found.milliseconds() < 60_000 && found.load().isPresent());
+        }
+        assertTrue(Tuning.tune(Duration.ZERO, MOST).isEmpty());
+        assertTrue(Tuning.tune(Duration.ofSeconds(Long.MIN_VALUE), MOST).isEmpty());
+        assertTrue(Tuning.tune(Duration.ofSeconds(60), MOST.withMemory(7167)).isEmpty());
+    }
+
+    @Test
+    void aSearchInAQueueIsStopped() throws InterruptedException {
+        try (HashQueue queue = new HashQueue(1, 0)) {
+            Thread caller = new Thread(() -> PasswordHasherTest.assertFails(STOPPED,
+                () -> queue.run(() -> Tuning.tune(Duration.ofHours(1), Settings.rfc9106())))); // takes minutes
+            caller.start();
+            HashQueueTest.await(() -> HashQueueTest.threads() == 1);
+            caller.interrupt();
+            HashQueueTest.await(() -> queue.submit(() -> "").isDone() && !HashQueueTest.isBusy(queue.submit(() -> "")));
+            caller.join();
+        }
     }
 }
