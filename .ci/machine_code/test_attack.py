@@ -14,18 +14,21 @@ from pathlib import Path
 from types import SimpleNamespace
 
 import arm64
+import prefetched
 import pytest
 import x86
 from shared import TOP
 from terms import BITS, Fault, forget
-from validated import FLAGS, FUNCTIONS, builds_of, code_of
+from validated import FLAGS, FUNCTIONS, builds_of, code_of, faults_of
 
 pytestmark = pytest.mark.timeout(3600)
 RELEASE, SEED = TOP / 'release', os.environ.get('SEED') or random.randrange(1 << 32)
 FILES = 'x86_64/libproved_argon2.a', 'aarch64/libproved_argon2.a', 'wasm32/proved_argon2.wasm'
 # This module has the same instructions, except for the numbers of the functions that are called.
 SAME = 'wasm32/proved_argon2_shared.wasm'
-DRAWN, UNTIL_FORGOTTEN = 300, 100
+DRAWN, UNTIL_FORGOTTEN, SHARED = 300, 100, 'x86_64/libproved_argon2.so.1.0.0'
+# A load, a store, a call and a prefetch of other memory, each as long as the first prefetch.
+DOING_MORE = b'\x8b\x07\x90', b'\x89\x07\x90', b'\xff\xd0\x90', b'\x0f\x18\x0e'
 # The instructions that contain constants of the definitions, and in which bytes.
 WIDE = (re.compile('movabs .*'), 2, 10), (re.compile(r'movk\t.*|mov\tx\d+, #0x[0-9a-f]{3,}'), 0, 4), \
     (re.compile(r'i64\.const -?\d{11,}'), 1, 11)
@@ -152,6 +155,15 @@ def test_both_modules_have_the_same_instructions():
               for text, _ in code.bodies[begin].values() if not text.startswith('local[')]
              for code in (code_of(RELEASE / name) for name in (FILES[-1], SAME))]
     assert texts[0] and texts[0] == texts[1]
+
+
+@pytest.mark.parametrize('instruction', DOING_MORE)
+def test_what_does_more_than_prefetch_is_found(tmp_path, instruction):
+    code, made = code_of(RELEASE / SHARED), tmp_path / SHARED
+    place = code.place(min(prefetched.begins(code)))
+    made.parent.mkdir()
+    made.write_bytes(code.content[:place] + instruction + code.content[place + len(instruction):])
+    assert [fault for fault in faults_of(made) if 'it does more than prefetch' in fault]
 
 
 @pytest.mark.parametrize('decode, known, other', [

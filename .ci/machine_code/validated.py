@@ -9,6 +9,7 @@ import rfc9106
 from linked import Code
 from machine import WORD
 from machines import machines
+from prefetched import faults_of_prefetches
 from terms import Fault, variable
 from wasm import Module
 
@@ -98,7 +99,7 @@ def faults_of_function(code, function, begin):
 
 
 def faults_of(path):
-    """Returns what is wrong with both functions in a file, for each build of its machine."""
+    """Returns what is wrong in a file with these functions and that which prefetches, for each build of its machine."""
     try:
         code = code_of(path)
         code.validate()
@@ -110,4 +111,5 @@ def faults_of(path):
     others = code.multiplications().difference(*(met for _, met in came))
     return [*(fault for faults, _ in came for fault in faults),
             *(f'the functions are there {count} times' for count in counts if count != len(builds_of(path))),
-            *(f'something else multiplies as they do: {code.instructions[at][0]}' for at in others)]
+            *(f'something else multiplies as they do: {code.instructions[at][0]}' for at in others),
+            *faults_of_prefetches(code, builds_of(path), IDLE)]

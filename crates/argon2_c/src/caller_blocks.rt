@@ -11,6 +11,7 @@ ghost use Rattle.argon2_c.specs.Settings.{config_of};
 
 use crate::errors::CallError;
 use crate::jobs::CallerJob;
+use crate::prefetching::Prefetches;
 use crate::settings::Settings;
 use argon2::parts::block::Block;
 use argon2::parts::context::{Context, Job};
@@ -62,7 +63,7 @@ fn hash_context(
     if out.len() != context.config.hash_length as usize {
         return Err(CallError::WrongLength);
     }
-    hash_over(context, blocks, out);
+    hash_over(&Prefetches, context, blocks, out);
     Ok(())
 }
 
@@ -131,7 +132,7 @@ pub fn hash_job(numbers: &CallerJob, blocks: &mut [Block], out: &mut [u8]) -> Re
     if out.len() != numbers.hash_length as usize {
         return Err(CallError::WrongLength);
     }
-    hash_job_over(&job, blocks, out);
+    hash_job_over(&Prefetches, &job, blocks, out);
     Ok(())
 }
 
@@ -158,7 +159,7 @@ pub fn verify_job(
     if hash.len() != length || tag.len() != length {
         return Err(CallError::WrongLength);
     }
-    hash_job_over(&job, blocks, tag);
+    hash_job_over(&Prefetches, &job, blocks, tag);
     Ok(are_equal(hash, tag))
 }
 

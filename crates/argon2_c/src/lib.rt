@@ -23,6 +23,7 @@ mod errors;
 mod job_calls;
 mod jobs;
 mod limits;
+mod prefetching;
 mod reading;
 mod recommended;
 mod settings;

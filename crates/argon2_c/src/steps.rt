@@ -8,6 +8,7 @@ ghost use Rattle.argon2_c.specs.Steps.{Begins, Fills, Finishes, IsPlace, IsSlice
 
 use crate::errors::CallError;
 use crate::jobs::CallerJob;
+use crate::prefetching::Prefetches;
 use argon2::parts::block::Block;
 use argon2::parts::common::SYNC_POINTS;
 use argon2::parts::context::Job;
@@ -71,7 +72,8 @@ pub fn fill(
     if own.len() != job.segment_length() as usize {
         return Err(CallError::WrongBlocks);
     }
-    fill_caller_segment(&job.at(pass, slice), lane, first, second, third, own);
+    let job = job.at(pass, slice);
+    fill_caller_segment(&Prefetches, &job, lane, first, second, third, own);
     Ok(())
 }
 

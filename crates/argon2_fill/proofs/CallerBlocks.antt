@@ -6,7 +6,8 @@ use Rattle.std.proofs.Math.Nat.{mul-le-mul_right}
 use Rattle.std.proofs.lemmas.Bool.Decides.{eqb_tells}
 use Rattle.std.proofs.lemmas.Bool.{cases_lt}
 use Rattle.std.proofs.lemmas.List.{get_or_append_left, get_or-append_right, get_or-set_other, get_or-set_same, get_or-take, get_or-drop, length-take}
-use Rattle.std.proofs.lemmas.List.{length-drop, length-append, ext_get_or}
+use Rattle.std.proofs.lemmas.List.{length-drop, length-append, ext_get_or, append_assoc, drop-drop}
+use Rattle.std.proofs.Math.Seq.{take-append_seam, drop-append_seam}
 use Rattle.argon2_standard.specs.Standard.Setting.{Setting}
 use Rattle.argon2_standard.specs.Standard.Recurrence.{first_block}
 use Rattle.argon2_memory.specs.Views.Jobs.{IsSetting, Job, IsJob}
@@ -78,6 +79,70 @@ module _ (s : Setting) (old : List (List ℕ)) (lane : ℕ) (long : length old �
       at ≡ start → len ≡ s.segment_length → (l : ℕ) → l < s.lanes → l ≢ lane → blocks_of_lane s (front ++ (new ++ after)) l ≡ blocks_of_lane s old l
   others-stay front rest after at len f r a e n l h ne =
       ap (λ (b : List (List ℕ)). blocks_of_lane s b l) (placed-is front rest after at len f r a e n) ∙ other-placed l h ne
+
+-- ---- two lanes of a slice, one behind the other
+
+module _ (s : Setting) (old : List (List ℕ)) (lane : ℕ) (long : length old ≡ s.lanes * s.segment_length) (fits : lane + 1 < s.lanes)
+    (own other : List (List ℕ)) (same : length own ≡ s.segment_length) (same' : length other ≡ s.segment_length) where
+  abbrev from : ℕ
+  from = lane * s.segment_length
+
+  abbrev rest : List (List ℕ)
+  rest = drop s.segment_length (drop from old)
+
+  abbrev head : List (List ℕ)
+  head = take from old ++ own
+
+  -- the slice `old` with the first lane's part replaced by `own`, and then the second one's by `other`
+  abbrev one : List (List ℕ)
+  one = take from old ++ (own ++ rest)
+
+  abbrev both : List (List ℕ)
+  both = take from old ++ (own ++ (other ++ drop s.segment_length rest))
+
+  below : lane < s.lanes
+  below = omega (arith, fits)
+
+  length-head : length head ≡ (lane + 1) * s.segment_length
+  length-head = let a = length-append (take from old) own in let f = length-front s old lane long below own same in omega (arith, a, f, same)
+
+  one-is : one ≡ head ++ rest
+  one-is = sym (append_assoc (take from old) own rest)
+
+  both-is : both ≡ head ++ (other ++ drop s.segment_length rest)
+  both-is = sym (append_assoc (take from old) own (other ++ drop s.segment_length rest))
+
+  head-of-one : head ≡ take ((lane + 1) * s.segment_length) one
+  head-of-one = sym (ap (λ (b : List (List ℕ)). take ((lane + 1) * s.segment_length) b) one-is
+      ∙ ap (λ n. take n (head ++ rest)) (sym length-head) ∙ take-append_seam head rest)
+
+  rest-of-one : rest ≡ drop ((lane + 1) * s.segment_length) one
+  rest-of-one = sym (ap (λ (b : List (List ℕ)). drop ((lane + 1) * s.segment_length) b) one-is
+      ∙ ap (λ n. drop n (head ++ rest)) (sym length-head) ∙ drop-append_seam head rest)
+
+  pub pair-is : (front after rest₁ rest₂ : List (List ℕ)) (at len : ℕ) → front ≡ take at old → after ≡ drop len rest₂ → rest₂ ≡ drop len rest₁ →
+      rest₁ ≡ drop at old → at ≡ from → len ≡ s.segment_length → front ++ (own ++ (other ++ after)) ≡ both
+  pair-is front after rest₁ rest₂ at len f a r₂ r₁ e n = rw (f, a, r₂, r₁, e, n) refl
+
+  -- every lane but the two has the blocks that it has in `old`
+  pub pair-stays : (l : ℕ) → l < s.lanes → l ≢ lane → l ≢ lane + 1 → blocks_of_lane s both l ≡ blocks_of_lane s old l
+  pair-stays l h ne ne' =
+      ap (λ (b : List (List ℕ)). blocks_of_lane s b l) both-is
+      ∙ others-stay s one (lane + 1) (length-placed s old lane long below own same) fits other same' head rest (drop s.segment_length rest)
+      ((lane + 1) * s.segment_length) s.segment_length head-of-one rest-of-one refl refl refl l h ne'
+      ∙ others-stay s old lane long below own same (take from old) (drop from old) rest from s.segment_length refl refl refl refl refl l h ne
+
+  pub pair-next : blocks_of_lane s both (lane + 1) ≡ other
+  pair-next =
+      ap (λ (b : List (List ℕ)). take s.segment_length (drop ((lane + 1) * s.segment_length) b)) both-is
+      ∙ ap (λ n. take s.segment_length (drop n (head ++ (other ++ drop s.segment_length rest)))) (sym length-head)
+      ∙ ap (λ (b : List (List ℕ)). take s.segment_length b) (drop-append_seam head (other ++ drop s.segment_length rest))
+      ∙ ap (λ n. take n (other ++ drop s.segment_length rest)) (sym same') ∙ take-append_seam other (drop s.segment_length rest)
+
+  pub next-was : (rest₁ rest₂ : List (List ℕ)) (at len : ℕ) → rest₂ ≡ drop len rest₁ → rest₁ ≡ drop at old → at ≡ from → len ≡ s.segment_length →
+      take len rest₂ ≡ blocks_of_lane s old (lane + 1)
+  next-was rest₁ rest₂ at len r₂ r₁ e n = rw (r₂, r₁, e, n) (ap (λ (b : List (List ℕ)). take s.segment_length b) (drop-drop s.segment_length from old
+      ∙ ap (λ k. drop k old) (omega arith)))
 
 -- ---- the first two blocks of a lane
 

@@ -13,7 +13,7 @@ use crate::fill::{write_first_block, write_tag};
 use argon2_blocks::block::{Block, first_and_others};
 use argon2_blocks::common::SYNC_POINTS;
 use argon2_memory::job::{Job, facts_of_context, facts_of_job, numbered_job, slice_count};
-use argon2_memory::segment::fill_caller_segment;
+use argon2_memory::segment::{Expects, fill_caller_pair, fill_caller_segment};
 use argon2_standard::context::Context;
 
 /// Writes a lane's first two blocks (RFC 9106, section 3.2, steps 3 and 4) into its segment of
@@ -66,7 +66,8 @@ pub fn begin_slice(job: &Job, slice: &mut [Block])
 
 /// Fills a lane's segment of a slice that the caller provides whole. It is apart from the loop over
 /// lanes, which relies on the clause that the other lanes are unchanged.
-fn fill_lane(
+fn fill_lane<E: Expects>(
+    expects: &E,
     job: &Job,
     lane: u32,
     first: &[Block],
@@ -89,11 +90,48 @@ fn fill_lane(
     let length = job.segment_length() as usize;
     let (_before, rest) = first_and_others(slice, place_of_lane(job, lane));
     let (own, _after) = first_and_others(rest, length);
-    fill_caller_segment(job, lane, first, second, third, own);
+    fill_caller_segment(expects, job, lane, first, second, third, own);
 }
 
-/// Fills the job's slice, lane after lane, beside the other three in rising order.
-fn fill_caller_slice(
+/// Fills the segments of a lane and of the next one, by turns, of a slice that the caller provides
+/// whole.
+fn fill_pair<E: Expects>(
+    expects: &E,
+    job: &Job,
+    lane: u32,
+    first: &[Block],
+    second: &[Block],
+    third: &[Block],
+    slice: &mut [Block],
+)
+    requires lanes_fit { lane + 1 < job.now.setting.lanes }
+    requires first_fits { length first.now ≡ job.now.setting.lanes * job.now.setting.segment_length }
+    requires second_fits { length second.now
+        ≡ job.now.setting.lanes * job.now.setting.segment_length }
+    requires third_fits { length third.now ≡ job.now.setting.lanes * job.now.setting.segment_length }
+    requires slice_fits { length slice.old ≡ job.now.setting.lanes * job.now.setting.segment_length }
+    ensures filled { let j = job.now in
+        FillsAmong j lane (first.now ∷ second.now ∷ third.now ∷ [])
+        (blocks_of_lane j.setting slice.old lane) (blocks_of_lane j.setting slice.new lane) }
+    ensures other_filled { let j = job.now in
+        FillsAmong j (lane + 1) (first.now ∷ second.now ∷ third.now ∷ [])
+        (blocks_of_lane j.setting slice.old (lane + 1))
+        (blocks_of_lane j.setting slice.new (lane + 1)) }
+    ensures others { (l : ℕ) → l < job.now.setting.lanes → l ≢ lane → l ≢ lane + 1
+        → blocks_of_lane job.now.setting slice.new l ≡ blocks_of_lane job.now.setting slice.old l }
+{
+    let length = job.segment_length() as usize;
+    let (_before, rest) = first_and_others(slice, place_of_lane(job, lane));
+    let _place = place_of_lane(job, lane + 1);
+    let (own, rest) = first_and_others(rest, length);
+    let (other, _after) = first_and_others(rest, length);
+    fill_caller_pair(expects, job, lane, first, second, third, own, other);
+}
+
+/// Fills the job's slice, two lanes by turns and then the next two, beside the other three in rising
+/// order. If the number of lanes is odd, the last one is filled alone.
+fn fill_caller_slice<E: Expects>(
+    expects: &E,
     job: &Job,
     first: &[Block],
     second: &[Block],
@@ -111,14 +149,23 @@ fn fill_caller_slice(
         → IsReadySlice j.setting j.pass j.slice (blocks_of_lane j.setting slice.old)
         → HoldsSlice j.setting j.pass j.slice (blocks_of_lane j.setting slice.new) }
 {
-    for lane in 0..job.lanes() {
-        fill_lane(job, lane, first, second, third, slice);
+    let lanes = job.lanes();
+    let mut lane = 0;
+    while lane < lanes {
+        if lane + 1 < lanes {
+            fill_pair(expects, job, lane, first, second, third, slice);
+            lane += 2;
+        } else {
+            fill_lane(expects, job, lane, first, second, third, slice);
+            lane += 1;
+        }
     }
 }
 
 /// Fills the job's slice of the four. They are four references, since one slice is written while
 /// the others are read. The others keep their rising order, by which their blocks are found.
-fn fill_one_of_four(
+fn fill_one_of_four<E: Expects>(
+    expects: &E,
     job: &Job,
     first: &mut [Block],
     second: &mut [Block],
@@ -138,15 +185,16 @@ fn fill_one_of_four(
 {
     facts_of_job(job);
     match job.slice() {
-        0 => fill_caller_slice(job, second, third, fourth, first),
-        1 => fill_caller_slice(job, first, third, fourth, second),
-        2 => fill_caller_slice(job, first, second, fourth, third),
-        _ => fill_caller_slice(job, first, second, third, fourth),
+        0 => fill_caller_slice(expects, job, second, third, fourth, first),
+        1 => fill_caller_slice(expects, job, first, third, fourth, second),
+        2 => fill_caller_slice(expects, job, first, second, fourth, third),
+        _ => fill_caller_slice(expects, job, first, second, third, fourth),
     }
 }
 
 /// Fills all slices of all passes, one after another.
-pub fn fill_caller_slices(
+pub fn fill_caller_slices<E: Expects>(
+    expects: &E,
     job: &Job,
     first: &mut [Block],
     second: &mut [Block],
@@ -166,7 +214,7 @@ pub fn fill_caller_slices(
     facts_of_job(job);
     // One loop over the slices of all passes, so that one invariant serves for all.
     for n in 0..slice_count(job) {
-        fill_one_of_four(&numbered_job(job, n), first, second, third, fourth);
+        fill_one_of_four(expects, &numbered_job(job, n), first, second, third, fourth);
     }
 }
 
@@ -204,9 +252,9 @@ pub fn finalize_slice(job: &Job, slice: &[Block], out: &mut [u8])
 }
 
 /// Writes the tag of a job, as long as `out`, into `out`. The tag is computed over a memory that
-/// the caller provides whole, slice after slice. The job's pass and slice are ignored. The call
-/// allocates nothing and always succeeds.
-pub fn hash_job_over(job: &Job, blocks: &mut [Block], out: &mut [u8])
+/// the caller provides whole, slice after slice, and `expects` is told of blocks before they are
+/// read. The job's pass and slice are ignored. The call allocates nothing and always succeeds.
+pub fn hash_job_over<E: Expects>(expects: &E, job: &Job, blocks: &mut [Block], out: &mut [u8])
     requires blocks_fit { length blocks.old ≡ memory_blocks job.now.setting }
     requires some { 0 < length out.old }
     requires few { length out.old < 2 ^ 32 }
@@ -218,13 +266,18 @@ pub fn hash_job_over(job: &Job, blocks: &mut [Block], out: &mut [u8])
     let (second, others) = first_and_others(others, length);
     let (third, fourth) = first_and_others(others, length);
     begin_slice(job, first);
-    fill_caller_slices(job, first, second, third, fourth);
+    fill_caller_slices(expects, job, first, second, third, fourth);
     finalize_slice(job, fourth, out);
 }
 
 /// The tag of an accepted call, as `hash_job_over` computes it.
 #[tactic(auto, unfolding(argon2_standard::specs::Standard::SettingsTable::table_error))]
-pub fn hash_over(context: &Context<'_>, blocks: &mut [Block], out: &mut [u8])
+pub fn hash_over<E: Expects>(
+    expects: &E,
+    context: &Context<'_>,
+    blocks: &mut [Block],
+    out: &mut [u8],
+)
     requires blocks_fit { length blocks.old ≡ context.now.memory_blocks }
     requires out_fits { length out.old ≡ context.now.config.hash_length }
     ensures { let c = context.now in
@@ -234,5 +287,5 @@ pub fn hash_over(context: &Context<'_>, blocks: &mut [Block], out: &mut [u8])
     facts_of_context(context);
     // Read for its range, since the prover knows it only where it is read.
     let _hash_length = context.config.hash_length;
-    hash_job_over(&Job::new(context), blocks, out);
+    hash_job_over(expects, &Job::new(context), blocks, out);
 }

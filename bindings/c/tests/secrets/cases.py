@@ -28,6 +28,7 @@ OK, DECODING_FAIL, MISMATCH = 0, 19, 64
 FEW_BLOCKS, MAPPED_BLOCKS, CHEAP = 640, 1024, 2048
 # The fewest blocks, and blocks over all passes, for which C starts threads (proved_argon2_driver.c).
 OF_THREADS, IN_ALL_PASSES = 2048, 4096
+RUN = 128  # blocks of a segment that are filled at a time
 OF_A_TEXT = 4  # reports: of two branches, in each of two calls (check_encoded and job_read)
 CAPACITY = 4096
 ASKED, ANSWERED = struct.Struct('<9I' + f'I{CAPACITY}s' * 5), struct.Struct(f'<4I{CAPACITY}s{CAPACITY}s')
@@ -67,6 +68,15 @@ class Vector(NamedTuple):
         others = 2 * self.lanes, 4 * slices * self.passes, 2 * slices
         return 4 * slices * self.passes - others[self.variant]
 
+    def expected(self):
+        """How many of these references are told beforehand if one call fills all lanes: in lanes that are filled two
+        by turns, all except the first of each run of 128 blocks."""
+        length = self.memory // (4 * self.lanes)
+        told = length - -(-length // RUN)
+        slices = 4 * self.passes, 0, 4 * self.passes - 2
+        begun = min(2, told) if self.variant == 0 else 0
+        return self.lanes // 2 * 2 * (slices[self.variant] * told - begun)
+
 
 class Question(NamedTuple):
     """A call with a vector; the expected code and number of reported branches; the hash or text that is verified, or
@@ -89,13 +99,17 @@ class Question(NamedTuple):
     def references(self):
         return self.vector.references() if self.code != DECODING_FAIL else 0
 
-    def is_right(self, came, reads):
+    def expected(self):
+        return self.vector.expected() if self.code != DECODING_FAIL and self.options in (FRESH, REUSED) else 0
+
+    def is_right(self, came, reads, tells):
         """A verdict is hidden, but DECODING_FAIL for a malformed hash is not. Every bit of a tag is hidden, and at
         least one bit of each letter of the tag in an encoded hash; nothing else is. Each reference is read at `reads`
-        places."""
+        places, and told beforehand at `tells`."""
         is_read = self.code != DECODING_FAIL
         calls_back = is_read and self.options in (PROGRESS, CALLER)
-        expected = (self.branches + reads * self.references(), calls_back, self.code, is_read and self.verified != b'')
+        addresses = reads * self.references() + tells * self.expected()
+        expected = (self.branches + addresses, calls_back, self.code, is_read and self.verified != b'')
         text = came.out.rstrip(b'\0') if self.call == PASSWORD_HASH else self.written
         hidden, others = came.bits[self.open:len(text)], came.bits[:self.open] + came.bits[len(text):]
         return (expected == (came.reports, came.calls_back > 0, came.code, came.undefined > 0)

@@ -35,7 +35,7 @@ X86 = re.compile(
     r'|vzeroupper|vbroadcasti128|v(insert|extract)i128|push|pop|lea|tzcnt'
     r'|(i?mul|mulx)[lq]?|(add|adc|sub|sbb|inc|dec|xor|or|and|not|neg|shl|shr|sar|shld|ror|rol|rorx'
     r'|bswap|cmp|test)[bwlq]?'
-    r'|set[a-z]+|cmov[a-z]+|j[a-z]+|call|ret|nop[lw]?|endbr64|ud2')
+    r'|set[a-z]+|cmov[a-z]+|j[a-z]+|call|ret|nop[lw]?|endbr64|ud2|prefetcht0')
 ARM64 = re.compile(
     r'(add|sub|adc|sbc|neg|ngc)s?|[us]add[lw]2?|addp|addv|m(add|sub|neg|ul|la|ls)'
     r'|[us]m(addl|subl|negl|ulh|ull2?|lal2?|lsl2?)'
@@ -43,14 +43,16 @@ ARM64 = re.compile(
     r'|[la]s[lr]|ror|shl|sli|sri|[us]sh[lr]|[us]sra|shrn2?|[us]shll2?|[us]xt[bhwl]|[us]xtl2?|xtn2?'
     r'|[us]?bf(m|i|x|iz|xil|c)|zip[12]|uzp[12]|trn[12]|tb[lx]|dup|ins|[us]mov|movi|mvni|f?mov[knz]?'
     r'|cmp|cmn|ccm[pn]|tst|cm(eq|hi|hs|ge|gt|le|lt|tst)|cs(el|inc|inv|neg|et|etm)|c(inc|inv|neg)|[us](max|min)[pv]?'
-    r'|(ld|st)(n?p|u?rs?[bhw]?|ur|[1-4]r?)|adrp?|b(\.[a-z]+)?|bl|blr|br|ret|cbn?z|tbn?z|nop|brk')
+    r'|(ld|st)(n?p|u?rs?[bhw]?|ur|[1-4]r?)|prfm|adrp?|b(\.[a-z]+)?|bl|blr|br|ret|cbn?z|tbn?z|nop|brk')
 NEVER_STEADY = 'div divl idiv idivq divsd sqrtsd vdivps udiv sdiv fdiv frecpe fsqrt'.split()
 # Multiplications of the compression: an object without them was not examined.
 PRODUCT = re.compile('v?pmuludq|um(ull|lal)2?')
-# The other instructions, with how many there are: divisions by numbers of the settings. Those of fill_caller_segment
-# yield the lane that a block selects, which the next reference's address reveals anyhow.
-DIVIDING = {'accepted_context': 1, 'proved_argon2_memory_len': 1, 'fill_caller_segment': 3}
-# How the names of a build's calls begin in the archive, which has all builds.
+# The other instructions, with how many there are: divisions by numbers of the settings. Those of the last three yield
+# the lane that a word selects, which the next reference's address reveals anyhow.
+DIVIDING = {'accepted_context': 1, 'proved_argon2_memory_len': 1, 'fill_independent': 2, 'fill_dependent': 1,
+            'expect_dependent': 1}
+# What ends a generic function's name. How the names of a build's calls begin in the archive, which has all builds.
+GENERIC = re.compile(r'::<#\w+>$')
 OF_BUILD = re.compile(r'^proved_(?:x86_64_v\d|armv8_a(?:_neon)?)_')
 # Secrets: for calls that hash, the password and the key; for calls that verify, the bits in which a hash is wrong.
 CALLED = {'hash': of.HASH_RAW, 'hash_text': of.HASH_ENCODED, 'verify': of.VERIFY_RAW, 'verify_text': of.VERIFY_ENCODED}
@@ -68,7 +70,8 @@ def unsteady(path, steady, prefix=''):
     found, function = Counter(), None
     for line in run(f'{prefix}objdump', '-d', '--no-show-raw-insn', path).splitlines():
         if re.match(r'[0-9a-f]+ <.*>:$', line):
-            function = OF_BUILD.sub('proved_argon2_', line[line.index('<') + 1:-2].rpartition('::')[2])
+            name = GENERIC.sub('', line[line.index('<') + 1:-2])
+            function = OF_BUILD.sub('proved_argon2_', name.rpartition('::')[2])
         elif re.match(r' +[0-9a-f]+:', line):
             found[function, 'nopw' if ' nopw' in line else line.split()[1]] += 1
     assert any(PRODUCT.fullmatch(kind) for _, kind in found), f'{path} has no product of 32 bits'

@@ -14,7 +14,7 @@ use argon2_fill::caller_blocks::hash_over;
 use argon2_fill::fill::write_first_block;
 use argon2_memory::job::Job;
 use argon2_memory::memory::{Memory, take_slices};
-use argon2_memory::segment::{pick, reference_set_column, reference_set_size};
+use argon2_memory::segment::{ExpectsNothing, pick, reference_set_column, reference_set_size};
 use argon2_standard::config::Config;
 use argon2_standard::context::Context;
 use std::process::Abort;
@@ -152,7 +152,7 @@ fn hashes_over_blocks_that_hold_anything(rt: HostRuntime) -> Tested<()> {
         let mut out = [0; 32];
         assert_eq!(rt; blocks.len(), context.memory_blocks as usize);
         assert_eq!(rt; out.len(), context.config.hash_length as usize);
-        hash_over(&context, &mut blocks[..], &mut out);
+        hash_over(&ExpectsNothing, &context, &mut blocks[..], &mut out);
         assert_eq!(rt; hex::encode(alloc, out)?.as_str(), tag);
     }
     Ok(())

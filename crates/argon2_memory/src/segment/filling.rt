@@ -11,7 +11,8 @@ ghost use Rattle.argon2_memory.specs.Views.Segments.{IsReady, segment_at, IsBefo
 ghost use Rattle.argon2_standard.specs.Standard.Recurrence.{block_at, drawn_word};
 ghost use Rattle.argon2_standard.specs.Standard.Reference.{is_data_independent};
 
-use super::other_blocks::{Beside, OtherBlocks, beside_blocks, source_before};
+use super::expecting::{Expects, ExpectsNothing};
+use super::other_blocks::{Beside, OtherBlocks, beside_blocks, slice_of_column, source_before};
 use super::own_blocks::{CallerSegment, OwnBlocks, Segment, Source};
 use super::positions::{pick, reference_positions};
 use super::snapshot::Snapshot;
@@ -20,6 +21,7 @@ use argon2_blocks::block::Block;
 use argon2_blocks::common::QWORDS_IN_BLOCK;
 
 /// Writes the block at an index, from the one before it and the one that it refers to.
+#[inline(always)]
 fn write_block<S: OtherBlocks, O: OwnBlocks>(
     beside: &Beside<S>,
     lane: u32,
@@ -57,7 +59,7 @@ fn named<'a, O: OwnBlocks>(own: &'a O, source: Source<'a>) -> &'a Block
 
 /// The word that picks the reference of the block at an index, in a segment whose references depend
 /// on the blocks.
-fn dependent_word<S: OtherBlocks, O: OwnBlocks>(
+pub(super) fn dependent_word<S: OtherBlocks, O: OwnBlocks>(
     beside: &Beside<S>,
     lane: u32,
     index: u32,
@@ -77,7 +79,8 @@ fn dependent_word<S: OtherBlocks, O: OwnBlocks>(
 }
 
 /// Fills `count` blocks from an index on, one after another, whose references depend on blocks.
-fn fill_dependent<S: OtherBlocks, O: OwnBlocks>(
+#[inline(never)]
+pub(super) fn fill_dependent<S: OtherBlocks, O: OwnBlocks>(
     beside: &Beside<S>,
     lane: u32,
     first: u32,
@@ -108,8 +111,39 @@ fn fill_dependent<S: OtherBlocks, O: OwnBlocks>(
     }
 }
 
+/// The first of two blocks, or the second. Both are found before, so that it chooses between two
+/// addresses and needs no branch.
+fn one_of<'a>(is_first: bool, first: &'a Block, second: &'a Block) -> &'a Block {
+    if is_first { first } else { second }
+}
+
+/// Tells which block the one at an index refers to.
+pub(super) fn expect_reference<E: Expects, S: OtherBlocks, O: OwnBlocks>(
+    expects: &E,
+    beside: &Beside<S>,
+    lane: u32,
+    index: u32,
+    reference: (u32, u32),
+    own: &O,
+)
+    requires lane_fits { lane < beside.now.job.setting.lanes }
+    requires index_fits { index < beside.now.job.setting.segment_length }
+    requires later { first_index beside.now.job ≤ index }
+    requires picked { IsPicked beside.now.job lane index reference }
+    requires long { length (O.seen own.now).blocks ≡ beside.now.job.setting.segment_length }
+{
+    let job = beside.job();
+    facts_of_job(job);
+    let (other_lane, column) = reference;
+    let slice = slice_of_column(job, column);
+    let at = column - slice * job.segment_length();
+    let other = beside.block(slice, other_lane, at);
+    expects.expect(one_of(slice == job.slice(), own.block(at as usize), other));
+}
+
 /// Writes the blocks from an index on, whose references are known.
-fn write_blocks<S: OtherBlocks, O: OwnBlocks>(
+fn write_blocks<E: Expects, S: OtherBlocks, O: OwnBlocks>(
+    expects: &E,
     beside: &Beside<S>,
     lane: u32,
     first: u32,
@@ -133,12 +167,17 @@ fn write_blocks<S: OtherBlocks, O: OwnBlocks>(
     // Read for its range, as in `fill_dependent`.
     let _tally = own.tally();
     for k in 0..references.len() {
+        if k + 1 < references.len() {
+            let next = first + (k + 1) as u32;
+            expect_reference(expects, beside, lane, next, references[k + 1], own);
+        }
         write_block(beside, lane, first + k as u32, references[k], own);
     }
 }
 
 /// Fills at most 128 blocks from an index on, whose references are data-independent.
-fn fill_independent<S: OtherBlocks, O: OwnBlocks>(
+pub(super) fn fill_independent<E: Expects, S: OtherBlocks, O: OwnBlocks>(
+    expects: &E,
     beside: &Beside<S>,
     lane: u32,
     first: u32,
@@ -163,12 +202,13 @@ fn fill_independent<S: OtherBlocks, O: OwnBlocks>(
     let mut references = [(0, 0); QWORDS_IN_BLOCK];
     let some = &mut references[..count as usize];
     reference_positions(beside.job(), lane, first, some);
-    write_blocks(beside, lane, first, some, own);
+    write_blocks(expects, beside, lane, first, some, own);
 }
 
 /// Fills at most 128 blocks of a lane's segment of the job's slice, from an index on. The blocks
 /// below the index are filled already.
-fn fill_blocks<S: OtherBlocks, O: OwnBlocks>(
+fn fill_blocks<E: Expects, S: OtherBlocks, O: OwnBlocks>(
+    expects: &E,
     beside: &Beside<S>,
     lane: u32,
     first: u32,
@@ -187,7 +227,7 @@ fn fill_blocks<S: OtherBlocks, O: OwnBlocks>(
     ensures same { O.loan own.new ≡ O.loan own.old }
 {
     if beside.job().is_independent() {
-        fill_independent(beside, lane, first, count, own);
+        fill_independent(expects, beside, lane, first, count, own);
     } else {
         fill_dependent(beside, lane, first, count, own);
     }
@@ -195,7 +235,12 @@ fn fill_blocks<S: OtherBlocks, O: OwnBlocks>(
 
 /// Fills a lane's segment of the job's slice.
 #[tactic(auto, using(crate::proofs::Filled::filled_none, crate::proofs::Filled::filled_all))]
-fn fill_own<S: OtherBlocks, O: OwnBlocks>(beside: &Beside<S>, lane: u32, own: &mut O)
+fn fill_own<E: Expects, S: OtherBlocks, O: OwnBlocks>(
+    expects: &E,
+    beside: &Beside<S>,
+    lane: u32,
+    own: &mut O,
+)
     requires lane_fits { lane < beside.now.job.setting.lanes }
     requires long { length (O.seen own.old).blocks ≡ beside.now.job.setting.segment_length }
     ensures filled { let j = beside.now.job in IsSnapshot beside.now
@@ -211,7 +256,7 @@ fn fill_own<S: OtherBlocks, O: OwnBlocks>(beside: &Beside<S>, lane: u32, own: &m
     let mut index = job.first_index();
     while index < job.segment_length() {
         let count = stretch(job, index);
-        fill_blocks(beside, lane, index, count, own);
+        fill_blocks(expects, beside, lane, index, count, own);
         index += count;
     }
 }
@@ -229,7 +274,7 @@ pub fn fill_segment(snapshot: &Snapshot<'_>, lane: u32, segment: &mut Segment)
         + blocks_in_slice snapshot.now.job.setting snapshot.now.job.pass snapshot.now.job.slice) % 2
         ^ 64 }
 {
-    fill_own(snapshot.beside(), lane, segment);
+    fill_own(&ExpectsNothing, snapshot.beside(), lane, segment);
 }
 
 /// Fills a lane's segment of the job's slice. The caller provides the segment and the other three
@@ -238,7 +283,8 @@ pub fn fill_segment(snapshot: &Snapshot<'_>, lane: u32, segment: &mut Segment)
 /// The segment then holds the blocks of the job's pass, provided that three conditions hold: the
 /// segment was ready for a fill of the job, the slices below the job's hold the blocks of that
 /// pass, and the slices above hold the blocks of the pass before.
-pub fn fill_caller_segment(
+pub fn fill_caller_segment<E: Expects>(
+    expects: &E,
     job: &Job,
     lane: u32,
     first: &[Block],
@@ -257,5 +303,5 @@ pub fn fill_caller_segment(
     facts_of_job(job);
     let beside = beside_blocks(*job, [first, second, third]);
     let mut segment = CallerSegment::new(own);
-    fill_own(&beside, lane, &mut segment);
+    fill_own(expects, &beside, lane, &mut segment);
 }

@@ -105,7 +105,7 @@ fn with_stand_in<T: Copy>(others: [T; 3], slice: u32) -> [T; 4]
 
 /// The slice of a column, computed as a sum: a division takes long, and may take longer for some
 /// columns. The column may be drawn from blocks.
-fn slice_of_column(job: &Job, column: u32) -> u32
+pub(super) fn slice_of_column(job: &Job, column: u32) -> u32
     requires { column < lane_length job.now.setting }
     ensures value { result ≡ column / job.now.setting.segment_length }
     ensures fits { result < 4 }
@@ -153,7 +153,7 @@ impl<S: OtherBlocks> Beside<S> {
     }
 
     /// The block of another slice. For the job's own slice, the result is some other block.
-    fn block(&self, slice: u32, lane: u32, index: u32) -> &Block
+    pub(super) fn block(&self, slice: u32, lane: u32, index: u32) -> &Block
         requires slice_fits { slice < 4 }
         requires lane_fits { lane < self.now.job.setting.lanes }
         requires index_fits { index < self.now.job.setting.segment_length }

@@ -4,12 +4,12 @@ use Rattle.argon2_fill.proofs.Passes.{last_slices, next_slice}
 use Rattle.argon2_fill.proofs.caller_blocks.fill_caller_slices.Goals as goal
 
 pub loop-n-preserved : goal.loop-n-preserved
-loop-n-preserved c = λ begun.
+loop-n-preserved g c = λ begun.
     let step = rw c.numbered_job.ensures at c.fill_one_of_four.ensures in
     next_slice c.args.job.now.setting c.loop-n.n _ (step (c.loop-n.invariant begun))
 
 pub returns : goal.returns
-returns c = λ begun k below.
+returns g c = λ begun k below.
     let s = c.args.job.now.setting in
     let whole : c.loop-n.n ≡ 4 * s.passes = omega arith in
     let pass : c.loop-n.n / 4 ≡ s.passes = omega (arith, whole) in

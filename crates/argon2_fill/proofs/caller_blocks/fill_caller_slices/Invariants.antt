@@ -3,5 +3,5 @@ use Rattle.argon2_memory.specs.Views.Places.{AreFilledBelow, IsReadySlice, block
 use Rattle.argon2_fill.proofs.caller_blocks.fill_caller_slices.Given as goal
 
 abbrev pub invariant-loop-n : goal.invariant-loop-n
-invariant-loop-n l = IsReadySlice l.job.setting 0 0 (blocks_of_lane l.job.setting l.initial.first) →
+invariant-loop-n g l = IsReadySlice l.job.setting 0 0 (blocks_of_lane l.job.setting l.initial.first) →
     AreFilledBelow l.job.setting (l.n / 4) (l.n % 4) (places_of_slices l.job.setting (l.first ∷ l.second ∷ l.third ∷ l.fourth ∷ []))

@@ -3,7 +3,7 @@ use Rattle.argon2_fill.proofs.CallerBlocks.{others-stay}
 use Rattle.argon2_fill.proofs.caller_blocks.fill_lane.Goals as goal
 
 pub returns-clause-others : goal.returns-clause-others
-returns-clause-others c =
+returns-clause-others g c =
     let q = c.requires in
     let cut = c.first_and_others-before in
     let part = c.first_and_others-own in

@@ -6,7 +6,7 @@ use Rattle.argon2_fill.proofs.caller_blocks.hash_over.Goals as goal
 
 pub returns : goal.returns
 unfolding tag_of
-returns c =
+returns g c =
     let s = setting_of_context c.args.context.now in
     let same : c.new.result.setting ≡ s = ap (λ (j : Job). j.setting) c.new.ensures.value in
     c.hash_job_over.ensures

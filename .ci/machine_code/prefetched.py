@@ -1,0 +1,57 @@
+"""The function that is passed the address of a block that will be read soon. In each build it consists of prefetches of
+that block and a return, or of a return alone, so it changes nothing and no result depends on it."""
+
+import re
+from itertools import pairwise
+
+from linked import require, run
+
+NAME = 'argon2_c::prefetching::proved_argon2_expect'
+# The names under which a file has calls for C.
+OF_C = re.compile(r'proved_\w+_job_hash_over')
+PREFETCH = re.compile(r'prefetcht0 BYTE PTR \[rdi(?:\+(0x[0-9a-f]+))?\]|prfm\tpldl1keep, \[x0(?:, #(\d+))?\]')
+EXPORT = re.compile(r' - func\[(\d+)\].* -> "proved_argon2_expect"')
+# Its instructions in a module, where it first asks whether the stack has room.
+IN_MODULE = ['block', 'global.get 0', 'i64.const 16', 'i64.lt_s', 'br_if 0', 'i64.const 0', 'return', 'end',
+             'unreachable', 'end']
+BLOCK = 1024  # (in bytes)
+
+
+def begins(code):
+    return [begin for begin, name in code.names.items() if name == NAME]
+
+
+def is_prefetch(text):
+    found = PREFETCH.fullmatch(text)
+    return bool(found) and int(found[1] or found[2] or '0', 0) < BLOCK
+
+
+def faults_of_body(texts, idle):
+    """What is wrong with the function's instructions, of which those behind the return do nothing."""
+    end = texts.index('ret') if 'ret' in texts else len(texts)
+    others = [text for text in texts[:end] if not is_prefetch(text)] + \
+        [text for text in texts[end + 1:] if not idle.match(text)]
+    return [f'it does more than prefetch: {text}' for text in others] or ['it does not return'] * (end == len(texts))
+
+
+def faults_of_module(module):
+    """WebAssembly has no prefetch. What is exported passes its argument on to the function that the others call."""
+    numbers = EXPORT.findall(run(require('wasm-objdump'), '-x', module.path))
+    for number in numbers:
+        texts = [text for text, _ in module.bodies[number].values()]
+        if texts == IN_MODULE:
+            return []
+        numbers += [text.removeprefix('call ') for before, text in pairwise(texts)
+                    if before == 'local.get 0' and text.startswith('call ')]
+    return ['it does more than prefetch']
+
+
+def faults_of_prefetches(code, builds, idle):
+    """What is wrong with the function in a file, for each of its builds if the file has calls for C."""
+    if not hasattr(code, 'names'):
+        return faults_of_module(code)
+    expected = len(builds) if any(map(OF_C.fullmatch, code.names.values())) else 0
+    bodies = [[text for text, _ in code.bodies[begin].values()] for begin in begins(code)]
+    if len(bodies) != expected:
+        return [f'{NAME} is there {len(bodies)} times']
+    return [f'{NAME}: {fault}' for texts in bodies for fault in faults_of_body(texts, idle)]
