@@ -2,6 +2,8 @@
 PROVED_ARGON2_LIBRARY names the library, made of codes.c."""
 import collections
 import concurrent.futures
+import math
+import unittest.mock
 
 import pytest
 from proved_argon2 import (
@@ -13,11 +15,12 @@ from proved_argon2 import (
     extract_parameters,
     hash_password,
     hash_password_raw,
+    tune,
     verify_password,
 )
 from proved_argon2 import exceptions as errors
 from proved_argon2.low_level import ARGON2_VERSION, Memory, error_to_str, hash_secret, hash_secret_raw, verify_secret
-from running import CODES, HEADER, MEMORIES, NUMBERS
+from running import CODES, HEADER, NUMBERS
 
 STUB = _library._library
 STUB.seen.restype = _library.ctypes.c_char_p
@@ -31,6 +34,8 @@ STORED = Parameters(type=Type.ID, version=19, memory_cost=64, time_cost=3, paral
 VALUES = {"tag": b"x" * 5, "text": b"x" * 12, "true": True, "false": errors.VerifyMismatchError,
           "costly": errors.TooCostlyError, "stored": STORED}
 VERDICTS = {0: True, HEADER["MISMATCH"]: VALUES["false"], HEADER["TOO_COSTLY"]: VALUES["costly"]}
+# How many threads a verification asks for: the library uses one for each lane, and at most 16.
+MOST = 0xFFFFFFFF
 CALLS = {
     "hash_raw": lambda **named: hash_secret_raw(*HASH, **{**NAMED, **named}),
     "hash_encoded": lambda **named: hash_secret(*HASH, **{**NAMED, **named}),
@@ -42,8 +47,8 @@ HASHERS = [(lambda: PasswordHasher().hash("p"), "x" * 12),
            (lambda: PasswordHasher(keep_memory=True).hash("p"), "x" * 12),
            (lambda: hash_password(b"p"), b"x" * 12), (lambda: hash_password_raw(b"p"), b"x" * 32)]
 VERIFIERS = [lambda: PasswordHasher().verify(TEXT, "p"), lambda: PasswordHasher(limits=None).verify(TEXT, "p"),
-             lambda: PasswordHasher(keep_memory=True).verify(TEXT, "p"),
-             lambda: verify_password(TEXT.encode(), b"p", Type.ID)]
+             lambda: PasswordHasher(keep_memory=True).verify(TEXT, "p")]
+OLDER_VERIFIER = lambda: verify_password(TEXT.encode(), b"p", Type.ID)  # noqa: E731
 SAME = PasswordHasher.from_parameters(STORED)
 READERS = [(lambda: extract_parameters(TEXT), STORED), (lambda: SAME.check_needs_rehash(TEXT), False),
            (lambda: PasswordHasher().check_needs_rehash(TEXT), True)]
@@ -90,23 +95,20 @@ def gives(place, call, values, other, saw=lambda number: True):
 @each_call
 @pytest.mark.parametrize("is_kept", [False, True])
 def test_a_call_gives_for_each_number_what_the_table_says(name, is_kept):
-    """It passes its arguments in order, and asks for as many threads as lanes. A larger buffer is allocated only if
-    the library says that it is too small. Its size is that of the settings, or of those in the string."""
+    """It passes its arguments in order, and its kept buffers. A hash asks for as many threads as it has lanes."""
     codes, other = CODES[name], errors.HashingError if name.startswith("hash") else errors.VerificationError
     values = {number: VALUES[value] for number, value in codes.values.items()}
-    telling, memories = codes.telling if codes.hashes else CODES["read"].telling, []
+    telling, memory = codes.telling if codes.hashes else CODES["read"].telling, Memory(64) if is_kept else None
 
     def call():
-        memories[:] = [Memory() if is_kept else None]
-        return CALLS[name](memory=memories[0])
+        return CALLS[name](memory=memory)
 
     def saw(number):
         computes = number == 0 or place == "then"
-        size = 65536 if computes and is_kept and number == HEADER["OUT_OF_MEMORY"] else 0
         told = telling if computes or not codes.hashes else ""
         return seen() == Seen(
-            4 * computes, size if computes and is_kept else -1, 0 if computes else -1, *3 * [size > 0],
-            codes.judging, "memory 2 19 64 3 4 5" if size else told, codes.computing if computes else "")
+            (4 if codes.hashes else MOST) * computes, 65536 if computes and is_kept else -1, 0 if computes else -1,
+            0, 0, 0, codes.judging, told, codes.computing if computes else "")
 
     for place in [*codes.places, *["read"] * (not codes.hashes)]:
         if place == "read":
@@ -116,25 +118,52 @@ def test_a_call_gives_for_each_number_what_the_table_says(name, is_kept):
         gives(place, call, values, other, saw)
 
 
-@each_call
-def test_a_memory_is_kept_and_given_back(name):
-    memory = Memory()
-    for size, kib, refused, counts in MEMORIES:
-        set_answers(then=HEADER["OUT_OF_MEMORY"], memory=refused, kib=kib)
-        with pytest.raises(errors.Argon2Error, match=said_of(HEADER["OUT_OF_MEMORY"])):
-            CALLS[name](memory=memory)
-        assert (seen()[3:6], memory._free[0].length) == (counts, size)
-    del memory
-    assert seen().there == 0
+def test_a_memory_is_made_only_for_ok():
+    for number in NUMBERS[1:]:
+        set_answers(memory=number)
+        with pytest.raises(errors.HashingError, match=said_of(number)):
+            Memory(64)
 
 
 def test_hashers_and_deprecated_calls_return_or_raise_the_same():
     for call, value in HASHERS:
         gives("then", call, {0: value}, errors.HashingError)
         gives("check", call, {0: value}, errors.HashingError)
-    for call in VERIFIERS:
-        gives("then", call, VERDICTS, errors.VerificationError)
-        gives("read", call, {0: True}, errors.VerificationError)
+    for call in VERIFIERS:  # A hash that was made with other settings matches.
+        gives("then", call, {**VERDICTS, HEADER["NEEDS_REHASH"]: True}, errors.VerificationError)
+    gives("then", OLDER_VERIFIER, VERDICTS, errors.VerificationError)
+    gives("read", OLDER_VERIFIER, {0: True}, errors.VerificationError)
+
+
+def test_a_login_returns_or_raises_the_same_and_renews_only_a_hash_with_other_settings():
+    renewed = (True, "x" * 12)
+    verdicts = {**VERDICTS, 0: (True, None), HEADER["MISMATCH"]: (False, None)}
+    with unittest.mock.patch.object(PasswordHasher, "hash", return_value="x" * 12):
+        gives("then", lambda: PasswordHasher().verify_and_update(TEXT, "p"),
+              {**verdicts, HEADER["NEEDS_REHASH"]: renewed}, errors.VerificationError)
+
+
+def test_a_user_who_does_not_exist_is_never_let_in():
+    hasher = PasswordHasher(3, 64, 4, 5, 8, type=Type.I, secret=b"key")
+    gives("then", lambda: hasher.verify_unknown("word"), {HEADER["MISMATCH"]: False,
+          HEADER["TOO_COSTLY"]: errors.TooCostlyError}, errors.VerificationError)
+    assert seen().computing == "unknown word key 1 19 64 3 4 5"
+
+
+def test_tune_passes_its_arguments_and_returns_what_the_library_found():
+    words = "^with at most 8192 KiB no settings that protect passwords take at most 250.5 ms here$"
+    set_answers(then=HEADER["TOO_COSTLY"])
+    with pytest.raises(ValueError, match=words):
+        tune(250.5, 8192, 3)
+    for number in (number for number in NUMBERS if number not in (0, HEADER["TOO_COSTLY"])):
+        set_answers(then=number)
+        with pytest.raises(errors.HashingError, match=said_of(number)):
+            tune(250.5, 8192, 3)
+    set_answers()
+    assert tune(250.5, 8192, 3).parameters == Parameters(Type.ID, 19, 16, 32, 2, 8192, 3)
+    assert tune(250.5, 8192, 3).milliseconds == 250.5
+    for milliseconds, expected in ((0, 0), (-1, 0), (math.nan, 0), (math.inf, 10**9), (1e300, 10**9)):
+        assert tune(milliseconds).milliseconds == expected
 
 
 @pytest.mark.parametrize("call, value", READERS)
@@ -147,13 +176,14 @@ def test_settings_of_a_string_are_returned_only_for_ok(call, value):
 def test_the_numbers_are_the_header_s():
     assert [Type.D.value, Type.I.value, Type.ID.value] == [HEADER[name] for name in ("D", "I", "ID")]
     assert (ARGON2_VERSION, error_to_str(5)) == (HEADER["VERSION_13"], said_of(5))
-    for name in ("OK", "DECODING_FAIL", "OUT_OF_MEMORY", "MISMATCH", "NOT_ASCII", "UNKNOWN_NUMBER", "TOO_COSTLY"):
+    for name in ("OK", "DECODING_FAIL", "OUT_OF_MEMORY", "MISMATCH", "NOT_ASCII", "UNKNOWN_NUMBER", "NEEDS_REHASH",
+                 "TOO_COSTLY"):
         assert getattr(_library, name) == HEADER[name], name
 
 
 @pytest.mark.parametrize("keep_memory", [False, True])
 def test_a_hasher_passes_its_arguments_and_limits_in_order(keep_memory):
-    limits, length = Limits(100, 11, 12, 193), 0 if keep_memory else -1
+    limits, length = Limits(100, 11, 12, 193), 65536 if keep_memory else -1
     hasher = PasswordHasher(3, 64, 4, 5, 8, "utf-8", Type.I, limits=limits, keep_memory=keep_memory)
     hasher.hash("word", salt=b"somesalt")
     assert (seen().computing, seen().memory_len) == ("encoded word somesalt   1 19 64 3 4 5", length)
@@ -167,7 +197,7 @@ def test_a_hasher_passes_its_arguments_and_limits_in_order(keep_memory):
 
 def computing(**named):
     """The calls that take a progress callback."""
-    for memory in (None, Memory()):
+    for memory in (None, Memory(64)):
         hasher = PasswordHasher(keep_memory=memory is not None)
         yield from (lambda call=call: call(memory=memory, **named) for call in CALLS.values())
         yield lambda: hasher.hash("p", **named)
@@ -207,8 +237,8 @@ def test_an_exception_of_progress_stops_a_call_whatever_the_library_returns(erro
 @pytest.mark.parametrize("call, threads", [
     (lambda: hash_secret(b"p", b"somesalt", 3, 640, 40, 5, Type.ID), 40), (CALLS["hash_raw"], 4),
     (lambda: PasswordHasher(parallelism=3).hash("p"), 3), (lambda: PasswordHasher(parallelism=1).hash("p"), 1),
-    (lambda: PasswordHasher(parallelism=3, keep_memory=True).hash("p"), 3), (CALLS["verify_encoded"], 4),
-    *((call, 4) for call in VERIFIERS)])
-def test_a_call_asks_for_as_many_threads_as_lanes(call, threads):
+    (lambda: PasswordHasher(parallelism=3, keep_memory=True).hash("p"), 3), (CALLS["verify_encoded"], MOST),
+    *((call, MOST) for call in (*VERIFIERS, OLDER_VERIFIER)), (lambda: tune(1, parallelism=3), 3)])
+def test_a_call_asks_for_as_many_threads_as_lanes_or_for_any_number_to_verify(call, threads):
     call()
     assert seen().threads == threads

@@ -1,50 +1,43 @@
-"""`Memory`, whose buffers several calls reuse: when it allocates, and what a buffer contains after a call."""
+"""Kept buffers: `Memory`, `keep_memory`, and those of asyncio's hashers. The C library's tests cover the rest."""
+import asyncio
 import copy
-import ctypes
-import os
 import pickle
 import threading
+import time
 from concurrent.futures import ThreadPoolExecutor
-from pathlib import Path
 from unittest import mock
 
 import pytest
-from processes import resident
-from proved_argon2 import Limits, PasswordHasher, Type, _library, _memory
-from proved_argon2.exceptions import HashingError, TooCostlyError, VerificationError, VerifyMismatchError
+from processes import PATIENCE, resident, status_of_child
+from proved_argon2 import (
+    AsyncPasswordHasher,
+    AsyncPepperedHasher,
+    Limits,
+    PasswordHasher,
+    PepperedHasher,
+    Type,
+    _memory,
+    _pool,
+)
+from proved_argon2.exceptions import HashingError, VerificationError, VerifyMismatchError
 from proved_argon2.low_level import Memory, hash_secret, hash_secret_raw, verify_secret
 
-NEW = _library._library.proved_argon2_memory_new
-LARGE = "$argon2id$v=19$m=1048576,t=1,p=1$c29tZXNhbHQ$AAAAAAAAAAAAAAAAAAAAAA"
-SMALL = {"time_cost": 1, "memory_cost": 1024, "parallelism": 2}
-NEEDED = _library.Settings(2, 19, 64, 1, 1, 32)
+MIB = 1 << 20
+# Memory that a process has beside the blocks of its hashes: other threads' stacks, and what Python needs.
+SLACK = 8 * MIB
+# A kept buffer of this many KiB, of which a call has touched all, is seen in the process's memory.
+LARGE = 32 << 10
+LARGER = "$argon2id$v=19$m=1048576,t=1,p=1$c29tZXNhbHQ$AAAAAAAAAAAAAAAAAAAAAA"
 
 
-@pytest.fixture
-def new():
-    """Count the buffers that the package asks the library for. (bindings/tests/codes.py tests that they are freed.)"""
-    with mock.patch.object(_library._library, "proved_argon2_memory_new", side_effect=NEW) as counted:
-        yield counted
+def settings_of(memory_cost, **named):
+    return PasswordHasher(time_cost=1, memory_cost=memory_cost, parallelism=1, **named)
 
 
-def free_pages(memory):
-    """Return the only buffer of a memory, which no call uses."""
-    (pages,) = memory._free
-    return pages
-
-
-def fill(memory):
-    pages = free_pages(memory)
-    ctypes.memset(pages.address, 0xA5, pages.length)
-
-
-def held(memory):
-    pages = free_pages(memory)
-    return ctypes.string_at(pages.address, pages.length)
-
-
-def raw(memory_cost, memory, lanes=1, password=b"password", **named):
-    return hash_secret_raw(password, b"somesalt", 1, memory_cost, lanes, 16, Type.ID, memory=memory, **named)
+def keeps(hasher, before):
+    """Return whether this process has the memory of a large hash, beside what it had before."""
+    del hasher
+    return resident() > before + (LARGE << 10) - SLACK
 
 
 def outcome(call, memory):
@@ -58,166 +51,139 @@ def outcome(call, memory):
 def calls(memory_cost, lanes=1, time_cost=1, variant=Type.ID):
     """Yield each call that takes a memory, as a function of the memory, with its expected outcome."""
     arguments = (b"password", b"somesalt", time_cost, memory_cost, lanes, 24, variant)
-    text, limits = hash_secret(*arguments), Limits(memory_cost=1 << 20, parallelism=100)
+    text, limits = hash_secret(*arguments), Limits(memory_cost=1 << 19, parallelism=100)
     for call in (
         lambda memory: hash_secret(*arguments, memory=memory),
         lambda memory: hash_secret_raw(*arguments, memory=memory),
         lambda memory: verify_secret(text, b"password", variant, memory=memory),
         lambda memory: verify_secret(text, b"password", variant, limits=limits, memory=memory),
         lambda memory: verify_secret(text, b"Password", variant, memory=memory),
+        lambda memory: verify_secret(LARGER.encode(), b"password", Type.ID, limits=limits, memory=memory),
     ):
         yield call, outcome(call, None)
 
 
-def verifying(*changed, variant=Type.ID, **named):
-    """Return a call that verifies LARGE after a replacement."""
-    text = LARGE.replace(*changed) if changed else LARGE
-    return lambda memory: verify_secret(text.encode(), b"password", variant, memory=memory, **named)
-
-
-# Calls that are rejected before anything is computed.
-REJECTED = [
-    lambda memory: hash_secret(b"password", b"somesalt", 1, 7, 1, 16, Type.ID, memory=memory),
-    lambda memory: hash_secret_raw(b"password", b"somesalt", 0, 1 << 20, 1, 16, Type.ID, memory=memory),
-    lambda memory: hash_secret_raw(b"password", b"salt", 1, 1 << 20, 1, 16, Type.ID, memory=memory),
-    verifying("t=1", "t=0"), verifying("v=19", "v=18"), verifying("$AAAA", "$A*AA"), verifying(variant=Type.I),
-    verifying(limits=Limits(memory_cost=9999)),
-]
-
-
-def test_a_memory_changes_no_result_and_allocates_only_for_larger_settings(new):
-    memory, asked, largest = Memory(), 0, 0
-    shapes = ((64, 1), (4096, 4), (64, 2), (8192, 3), (8, 1), (1000, 5), (9000, 1), (320, 40), (8999, 1))
-    for place, (memory_cost, lanes) in enumerate(shapes):
-        asked, largest = asked + (memory_cost > largest), max(largest, memory_cost)
+def test_a_memory_changes_no_result():
+    """Some calls need more than the buffers have, and some settings are rejected."""
+    memory = Memory(4096, most=2)
+    for place, (memory_cost, lanes) in enumerate(((64, 1), (4096, 4), (8192, 3), (8, 1), (1000, 5), (320, 40))):
         for call, expected in calls(memory_cost, lanes, 2, list(Type)[place % 3]):
-            assert (outcome(call, memory), new.call_count) == (expected, asked), (memory_cost, lanes)
-            fill(memory)
-    assert free_pages(memory).length == 9000 << 10
+            assert outcome(call, memory) == expected, (memory_cost, lanes)
+    rejected = outcome(lambda memory: hash_secret(b"x", b"somesalt", 1, 7, 1, 16, Type.ID, memory=memory), memory)
+    assert rejected == (HashingError, "Memory cost is too small")
 
 
-def test_a_call_frees_buffers_that_no_call_has_used_for_a_minute():
-    memory, now = Memory(), [1000.0]
-    with mock.patch("time.monotonic", lambda: now[0]):
-        needs = [_library.Settings(2, 19, kib, 1, 1, 32) for kib in (9000, 64)]
-        with memory.pages_for_call(needs[0]) as large, memory.pages_for_call(needs[1]) as small:
-            assert large.grow(needs[0]) and small.grow(needs[1])
-        for waited, free in ((59, 2), (2, 1), (1000, 1)):
-            now[0] += waited
-            raw(64, memory)
-            assert len(memory._free) == free, waited
-    assert sorted(bool(pages.length) for pages in (large, small)) == [False, True]
-
-
-@pytest.mark.parametrize("memory_cost, lanes", [(256, 1), (4096, 4), (1003, 4)])
-def test_each_call_clears_what_it_used_of_a_buffer(memory_cost, lanes):
-    memory, used = Memory(), memory_cost // (4 * lanes) * 4 * lanes << 10
-    raw(5000, memory)
-    for call, expected in calls(memory_cost, lanes):
-        fill(memory)
-        assert outcome(call, memory) == expected
-        assert held(memory) == bytes(used) + b"\xa5" * ((5000 << 10) - used)
-
-
-def test_a_rejected_call_does_not_change_a_buffer(new):
-    memory, expected = Memory(), [outcome(call, None) for call in REJECTED]
-    assert all(error in (HashingError, VerificationError, TooCostlyError) for error, _ in expected)
-    assert [outcome(call, memory) for call in REJECTED] == expected
-    assert (new.call_count, free_pages(memory).length) == (0, 0)
-    raw(100, memory)
-    fill(memory)
-    assert [outcome(call, memory) for call in REJECTED] == expected
-    assert (new.call_count, held(memory)) == (1, b"\xa5" * (100 << 10))
-
-
-def test_calls_at_the_same_time_use_different_buffers():
-    memory = Memory()
-    inputs = [(512 + number, memory, 2, str(number).encode()) for number in range(64)]
-    expected = [raw(memory_cost, None, *others) for memory_cost, _, *others in inputs]
+def test_calls_at_the_same_time_have_the_same_results():
+    memory = Memory(1024, most=4)
+    inputs = [(str(number).encode(), b"somesalt", 1, 512 + number, 2, 16, Type.ID) for number in range(64)]
+    expected = [hash_secret_raw(*arguments) for arguments in inputs]
     with ThreadPoolExecutor(8) as pool:
         for _ in range(5):
-            assert list(pool.map(lambda arguments: raw(*arguments), inputs)) == expected
-    assert len(memory._free) <= 8
-    with memory.pages_for_call(NEEDED):
-        other = threading.Thread(target=raw, args=(64, memory), daemon=True)
-        other.start()
-        other.join(60)
-        assert not other.is_alive()
+            assert list(pool.map(lambda arguments: hash_secret_raw(*arguments, memory=memory), inputs)) == expected
 
 
-def test_an_exception_returns_the_buffer_to_the_memory(new):
-    memory = Memory()
-    raw(64, memory)
-    with pytest.raises(KeyboardInterrupt), memory.pages_for_call(NEEDED):
-        raise KeyboardInterrupt
-    raw(64, memory)
-    assert (new.call_count, len(memory._free)) == (1, 1)
+@pytest.mark.parametrize("memory_cost, most, error, words", [
+    (7, 1, HashingError, "Memory cost is too small"), (1 << 32, 1, HashingError, "memory_cost is 4294967296"),
+    (-1, 1, HashingError, "memory_cost is -1"), (64, -1, ValueError, "most is -1"),
+    ("64", 1, TypeError, "'memory_cost'"), (64, True, TypeError, "'most'")])
+def test_a_memory_that_no_hash_can_have_is_rejected(memory_cost, most, error, words):
+    with pytest.raises(error, match=words):
+        Memory(memory_cost, most)
+    if most == 1 and error is HashingError:
+        with pytest.raises(error, match=words):
+            settings_of(memory_cost, keep_memory=True)
 
 
-def test_a_buffer_that_cannot_be_freed_now_is_freed_later():
-    """Memory may run out before the library is called."""
-    pages = _memory.Pages()
-    assert pages.grow(NEEDED)
-    address = pages.address
-    with pytest.raises(_library.Refused):
-        pages.give_back(mock.Mock(side_effect=_library.Refused(_library.OUT_OF_MEMORY)))
-    freed = mock.Mock(side_effect=_library.memory_free)
-    pages.give_back(freed)
-    freed.assert_called_once_with(address, 64 << 10)
+def test_a_hasher_keeps_memory_only_with_keep_memory():
+    for keep_memory in (False, True):
+        before, hasher = resident(), settings_of(LARGE, keep_memory=keep_memory)
+        text = hasher.hash("password")
+        with pytest.raises(VerifyMismatchError):
+            hasher.verify(text, "Password")
+        assert hasher.keep_memory == keep_memory == keeps(hasher, before)
+        del hasher
+        assert resident() < before + SLACK
 
 
 @pytest.mark.parametrize("copied", [copy.copy, copy.deepcopy, lambda hasher: pickle.loads(pickle.dumps(hasher))])
 def test_a_copy_of_a_hasher_has_its_own_memory(copied):
-    hasher = PasswordHasher(**SMALL, keep_memory=True)
+    hasher = settings_of(64, keep_memory=True)
     other = copied(hasher)
     assert other.keep_memory and other.verify(hasher.hash("password"), "password") is True
-    assert copied(hasher._memory)._free is not hasher._memory._free
-    assert copied is copy.copy or other._memory is not hasher._memory
+    memory = copied(hasher._memory)
+    assert memory.handle != hasher._memory.handle and (memory.memory_cost, memory.most) == (64, hasher._memory.most)
 
 
-def test_a_forked_child_does_not_change_its_parent_s_buffer():
-    memory = Memory()
-    raw(64, memory)
-    child = os.fork()
-    if child == 0:
-        try:
-            fill(memory)
-        finally:
-            os._exit(7)
-    assert os.WEXITSTATUS(os.waitpid(child, 0)[1]) == 7
-    assert held(memory) == bytes(64 << 10)
+def test_the_number_of_kept_buffers_is_that_of_the_processors_or_of_the_calls():
+    with mock.patch.object(_memory, "processors", lambda: 3):
+        assert [memory.most for memory in (Memory(64), Memory(64, 5), settings_of(64, keep_memory=True)._memory)] == [
+            3, 5, 3]
+    peppered = PepperedHasher({"2026": b"key"}, memory_cost=64, parallelism=1)
+    for hasher in (AsyncPasswordHasher(settings_of(64), concurrency=2), AsyncPepperedHasher(peppered, concurrency=2)):
+        assert (hasher._pool._memory.memory_cost, hasher._pool._memory.most) == (64, 2)
 
 
-def test_core_dumps_do_not_contain_the_buffer():
-    memory = Memory()
-    raw(4096, memory)
-    lines = iter(Path("/proc/self/smaps").read_text().splitlines())
-    assert any(line.startswith(f"{free_pages(memory).address:x}-") for line in lines)
-    assert "dd" in next(line for line in lines if line.startswith("VmFlags:")).split()
+def hash_in(hasher, seconds=0):
+    """Make a call of an `AsyncPasswordHasher`, in an event loop that runs a while longer."""
+    async def call():
+        await hasher.hash("password")
+        await asyncio.sleep(seconds)
+
+    asyncio.run(call())
 
 
-@pytest.mark.parametrize("keep_memory", [False, True])
-def test_a_hasher_reuses_memory_only_with_keep_memory(new, keep_memory):
-    hasher = PasswordHasher(**SMALL, keep_memory=keep_memory)
-    assert (PasswordHasher().keep_memory, hasher.keep_memory) == (False, keep_memory)
-    for _ in range(3):
-        text = hasher.hash("password")
-        assert PasswordHasher().verify(text, "password") is hasher.verify(text, "password") is True
-        with pytest.raises(VerifyMismatchError):
-            hasher.verify(text, "Password")
-    assert new.call_count == keep_memory
-    assert not keep_memory or held(hasher._memory) == bytes(1024 << 10)
+def test_the_threads_of_an_async_hasher_keep_memory_which_the_event_loop_frees(monkeypatch):
+    before, hasher = resident(), AsyncPasswordHasher(settings_of(LARGE), concurrency=2)
+    hash_in(hasher)
+    assert keeps(hasher, before)
+    looks = mock.Mock(side_effect=[0.1, 0.1, 0])
+    monkeypatch.setattr(_pool, "IDLE_SECONDS", 0.1)
+    monkeypatch.setattr(_memory.Memory, "free_idle", lambda memory: looks())
+    hasher._pool._looking = None
+    hash_in(hasher, seconds=1)
+    assert looks.call_count == 3
+    hash_in(hasher)
+    del hasher
+    end = time.monotonic() + PATIENCE / 4
+    while resident() >= before + SLACK and time.monotonic() < end:
+        time.sleep(0.1)
+    assert resident() < before + SLACK
 
 
-@pytest.mark.parametrize("lanes", [1, 4])
-@pytest.mark.parametrize("memory_cost", [
-    2048, 2064, 3072, 4080, 4096, 4112, 6128, 6160, 7168, 9216, 12288, 19456, 65552])
-def test_a_hash_uses_the_memory_of_its_settings_and_at_most_256_kib_more(memory_cost, lanes):
-    """The sizes are around multiples of a huge page, and those of presets."""
-    used = []
-    for _ in range(5):  # A busy system may reclaim pages during a call.
-        before, seen = resident(), []
-        raw(memory_cost, None, lanes, progress=lambda *_: seen.append(resident()))
-        used.append(max(seen) - before)
-    # The first call also loads code and data that later calls reuse.
-    assert any(memory_cost << 10 <= size < (memory_cost + 256) << 10 for size in used[1:]), used
+def test_idle_memory_is_freed_after_ten_seconds():
+    before, hasher = resident(), AsyncPasswordHasher(settings_of(LARGE), concurrency=2)
+    hash_in(hasher, seconds=8)
+    assert keeps(hasher, before)
+    hash_in(hasher, seconds=13)
+    assert resident() < before + SLACK
+
+
+def test_a_call_of_an_async_hasher_that_progress_makes_has_the_same_result():
+    salt, inner, expected = b"somesaltsomesalt", [], settings_of(1024).hash("password", salt=b"somesaltsomesalt")
+
+    def nested(done, slices):
+        inner.append(settings_of(1024).hash("password", salt=salt))
+
+    hasher = AsyncPasswordHasher(settings_of(1024), concurrency=1)
+    call = hasher.run(lambda progress: settings_of(1024).hash("password", salt=salt, progress=nested))
+    assert asyncio.run(call) == expected and inner == [expected] * 4
+
+
+@pytest.mark.filterwarnings("ignore:.*multi-threaded.*fork:DeprecationWarning")
+def test_a_forked_child_can_use_the_memory_of_its_parent():
+    kept, used = settings_of(1024, keep_memory=True), AsyncPasswordHasher(settings_of(1024), concurrency=2)
+    text = kept.hash("password")
+    hash_in(used)
+
+    def run_in_child():
+        assert kept.verify(text, "password") is True
+        hash_in(used)
+        threads = [threading.Thread(target=kept.hash, args=("password",)) for _ in range(4)]
+        for thread in threads:
+            thread.start()
+        for thread in threads:
+            thread.join()
+
+    assert status_of_child(run_in_child) == 0
+    assert kept.verify(text, "password") is True
+    hash_in(used)

@@ -20,6 +20,7 @@ from proved_argon2 import (
     PepperedHasher,
     Type,
     _library,
+    _password_hasher,
     extract_parameters,
     hash_password,
     hash_password_raw,
@@ -137,7 +138,7 @@ def test_repr_shows_the_settings_but_not_the_secret():
 
 def test_default_parameters_can_be_changed_without_changing_the_profile():
     changed = profiles.get_default_parameters()
-    assert changed == profiles.RFC_9106_LOW_MEMORY and not hasattr(changed, "__dict__")
+    assert changed == profiles.RFC_9106_LOW_MEMORY
     changed.salt_len = 8
     assert (changed.salt_len, profiles.RFC_9106_LOW_MEMORY.salt_len) == (8, 16)
 
@@ -286,13 +287,17 @@ def test_extract_parameters_reads_each_setting():
     assert extract_parameters(TEXT.replace("v=19$", "")).version == 16
 
 
-def test_check_needs_rehash_compares_each_setting():
+def test_check_needs_rehash_and_verify_and_update_compare_each_setting():
     today = {"time_cost": 2, "memory_cost": 256, "parallelism": 1, "salt_len": 8, "type": Type.I}
     needs = PasswordHasher(**today).check_needs_rehash
     assert (needs(TEXT), needs(TEXT.encode()), needs(TEXT.replace("v=19", "v=16"))) == (False, False, True)
     for name, value in {"time_cost": 3, "memory_cost": 257, "parallelism": 2, "hash_len": 16, "salt_len": 16,
                         "type": Type.ID}.items():
-        assert PasswordHasher(**{**today, name: value}).check_needs_rehash(TEXT), name
+        hasher = PasswordHasher(**{**today, name: value})
+        assert hasher.check_needs_rehash(TEXT), name
+        is_match, new = hasher.verify_and_update(TEXT, "password")
+        assert is_match and not hasher.check_needs_rehash(new), name
+    assert PasswordHasher(**today).verify_and_update(TEXT, "password") == (True, None)
 
 
 def test_verify_and_update_renews_a_hash_with_other_settings_for_the_right_password_only():
@@ -323,7 +328,8 @@ class Denied:
     *((name, lambda hasher, old: hasher.hash("password"), HashingError) for name in OF_A_HASH),
     *((name, lambda hasher, old: hasher.verify_and_update(old, "password"), (True, None)) for name in OF_A_HASH),
     *((name, lambda hasher, old: hasher.verify(old, "Password"), VerificationError)
-      for name in ("read", "verify_encoded_with", "message")),
+      for name in ("verify_encoded_with", "message")),
+    ("password_verify_unknown", lambda hasher, old: hasher.verify_unknown("password"), VerificationError),
     ("read", lambda hasher, old: extract_parameters(old), MemoryError)])
 def test_memory_that_is_denied_to_ctypes_has_run_out(monkeypatch, name, call, expected):
     old, (types, result) = PasswordHasher(**OTHER).hash("password"), _library._CALLS[name]
@@ -360,24 +366,24 @@ def test_verify_and_update_raises_the_errors_of_verify(text, error):
 @pytest.mark.parametrize("settings", [
     SMALL, {**OTHER, "type": Type.I, "salt_len": 9, "hash_len": 5}, {**SMALL, "type": Type.D, "salt_len": 10},
     {"time_cost": 11, "memory_cost": 160, "parallelism": 20, "hash_len": 4, "salt_len": 8}])
-@pytest.mark.parametrize("secret", [b"", b"pepper"])
-def test_verify_unknown_verifies_a_hash_with_the_same_settings_and_returns_false(settings, secret):
+def test_verify_unknown_computes_a_hash_with_the_same_settings_and_returns_false(settings):
     """A login of a user who does not exist then takes as long as one of a user who does."""
-    hasher, verified = PasswordHasher(**settings, secret=secret), []
-    with mock.patch.object(_library, "verify_pieces", side_effect=_library.verify_pieces) as call, \
-            mock.patch("proved_argon2.low_level.verify_pieces", call):
+    hasher, slices = PasswordHasher(**settings, secret=b"pepper"), []
+    with mock.patch.object(_password_hasher, "verify_unknown", side_effect=_library.verify_unknown) as call:
         for password in ("password", b"", "x" * 1000):
-            assert hasher.verify_unknown(password) is False
-            verified.append(call.call_args[0][0][0].decode())
-    assert call.call_count == 3
-    for text in verified:
-        assert extract_parameters(text) == hasher._parameters
-        assert not hasher.check_needs_rehash(text)
+            assert hasher.verify_unknown(password, progress=lambda *progress: slices.append(progress)) is False
+    assert slices == 3 * [(done, 4 * hasher.time_cost) for done in range(1, 4 * hasher.time_cost + 1)]
+    for passed, *_ in (arguments for arguments, _ in call.call_args_list):
+        found = [getattr(passed, name) for name, _ in passed._fields_]
+        assert found == [
+            hasher.type.value, 19, hasher.memory_cost, hasher.time_cost, hasher.parallelism, hasher.hash_len]
 
 
-def test_verify_unknown_returns_false_even_if_the_password_matches():
-    with mock.patch.object(PasswordHasher, "verify", return_value=True):
-        assert PasswordHasher().verify_unknown("password") is False
+@pytest.mark.parametrize("name", ["time_cost", "memory_cost", "parallelism", "hash_len"])
+def test_verify_unknown_rejects_settings_that_no_hash_can_have(name):
+    for number in (0, -1, 1 << 32, (1 << 32) + 64):
+        with pytest.raises(VerificationError):
+            PasswordHasher(**{**SMALL, name: number}).verify_unknown("password")
 
 
 def test_verify_unknown_takes_as_long_as_verify():
@@ -400,8 +406,8 @@ def test_verify_unknown_raises_other_errors_and_stops():
         PasswordHasher(**SMALL).verify_unknown("password", progress=stop)
     with pytest.raises(TypeError, match="'password'"):
         PasswordHasher(**SMALL).verify_unknown(None)
-    with mock.patch.object(PasswordHasher, "verify", side_effect=VerificationError), pytest.raises(VerificationError):
-        PasswordHasher(**SMALL).verify_unknown("password")
+    with pytest.raises(VerificationError, match="^Out of memory$"):
+        PasswordHasher(memory_cost=0xFFFFFFFF).verify_unknown("password")
 
 
 @pytest.mark.parametrize("hash", [None, 5, bytearray(TEXT.encode()), ["x"]])

@@ -40,7 +40,7 @@ def test_all_vectors_are_present():
     assert (len(LINES), len(TEXTS)) == (240 if len(FILES) == 1 else 1040, 147)
 
 
-@pytest.mark.parametrize("memory", [None, Memory()], ids=["own memory", "one memory"])
+@pytest.mark.parametrize("memory", [None, Memory(65536)], ids=["own memory", "one memory"])
 def test_each_tag_or_error_is_that_of_the_vector(memory):
     """Encoded hashes have the same tag. They match only with this password, this secret and this associated data."""
     for line in LINES if memory is None else LINES[:240]:

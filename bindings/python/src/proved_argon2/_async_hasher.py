@@ -1,5 +1,6 @@
 """A `PasswordHasher` and a `PepperedHasher` for asyncio."""
 from ._machine import memory, processors
+from ._memory import Memory
 from ._password_hasher import PasswordHasher, require_types
 from ._peppers import PepperedHasher
 from ._pool import Pool
@@ -36,7 +37,7 @@ class _AsyncCalls:
         require_types(waiting=(self.waiting, int))
         if self.concurrency < 1 or self.waiting < 0:
             raise ValueError("'concurrency' must be at least 1, and 'waiting' at least 0")
-        self._pool = Pool(self.concurrency, self.waiting)
+        self._pool = Pool(self.concurrency, self.waiting, Memory(own.memory_cost, self.concurrency))
 
     async def run(self, call: "Callable[..., Result]", *arguments: "Any", **named: "Any") -> "Result":
         """Make another call in the same threads, and return its result.
@@ -61,8 +62,8 @@ class AsyncPasswordHasher(_AsyncCalls):
     Cancelling a task takes its call out of the queue, or stops it after the slice that it computes. Then its place is
     free.
 
-    A thread keeps the memory of its hashes for the next one. Each hash clears what it used, and a thread that has had
-    no call for ten seconds frees the memory and ends.
+    The memory of a hash is kept for the next one, unless that needs more than a hash of `hasher`. Each hash clears what
+    it used, and the event loop frees memory that has been idle for ten seconds.
 
     Several event loops and threads may share an `AsyncPasswordHasher`. A forked child may use it too: the child has
     threads of its own, and calls of the parent take none of its places.

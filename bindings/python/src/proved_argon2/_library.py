@@ -7,7 +7,7 @@ TYPE_CHECKING = False
 if TYPE_CHECKING:
     from typing import Any, Callable, Dict, Generator, Iterator, List, Optional, Sequence, Tuple, Type, Union
 
-    from ._memory import Memory, Pages, ThreadMemory
+    from ._memory import Memory
 
     Progress = Callable[[int, int], object]
 
@@ -21,11 +21,13 @@ OUT_OF_MEMORY = 20
 MISMATCH = 64
 NOT_ASCII = 66
 UNKNOWN_NUMBER = 67
+NEEDS_REHASH = 68
 TOO_COSTLY = 69
-STOPPED = 130
 
 # The greatest value of a setting.
 MAX_NUMBER = 0xFFFFFFFF
+# The slices of a pass.
+SLICES = 4
 
 
 class Settings(ctypes.Structure):
@@ -41,6 +43,12 @@ class Stored(ctypes.Structure):
     """The header's `proved_argon2_stored`."""
 
     _fields_ = [("settings", Settings), ("salt_length", ctypes.c_uint32)]
+
+
+class Tuned(ctypes.Structure):
+    """The header's `proved_argon2_tuning`."""
+
+    _fields_ = [("settings", Settings), ("nanoseconds", ctypes.c_uint64)]
 
 
 class NumberLimits(ctypes.Structure):
@@ -112,9 +120,12 @@ _CALLS: "Dict[str, Tuple[List[Any], Any]]" = {
     "default_limits": ([], NumberLimits),
     "read": ([*_BYTES, ctypes.POINTER(Stored)], ctypes.c_uint32),
     "encoded_len": ([*_SETTINGS, ctypes.c_uint32], ctypes.c_uint64),
-    "memory_len": (_SETTINGS, ctypes.c_uint64),
-    "memory_new": ([*_SETTINGS, ctypes.POINTER(ctypes.c_void_p), ctypes.POINTER(ctypes.c_size_t)], ctypes.c_uint32),
-    "memory_free": ([ctypes.c_void_p, ctypes.c_size_t], None),
+    "password_verify_unknown": ([ctypes.POINTER(Options), *_SETTINGS, *2 * _BYTES], ctypes.c_uint32),
+    "buffers_new": ([*_SETTINGS, ctypes.c_uint32, ctypes.POINTER(ctypes.c_void_p)], ctypes.c_uint32),
+    "buffers_free_idle": ([ctypes.c_void_p], ctypes.c_uint32),
+    "buffers_free": ([ctypes.c_void_p], None),
+    "tune": (
+        [ctypes.POINTER(Options), *_SETTINGS, ctypes.c_uint64, ctypes.POINTER(Tuned)], ctypes.c_uint32),
     "message": ([ctypes.c_uint32], ctypes.c_char_p),
     "check": ([*_SETTINGS, *4 * [ctypes.c_uint64]], ctypes.c_uint32),
     "library_version": ([], ctypes.c_uint32),
@@ -198,28 +209,47 @@ def _buffer(length: int) -> "ctypes.Array[ctypes.c_char]":
         raise Refused(OUT_OF_MEMORY) from None
 
 
+class Stop:
+    """A progress callback that only stops a call, once `is_stopped` is set."""
+
+    is_stopped = False
+
+    def __call__(self, done: int, slices: int) -> None:
+        """Raise `CancelledError` if the call is stopped."""
+        if self.is_stopped:
+            from asyncio import CancelledError
+
+            raise CancelledError
+
+
 class ProgressCallback:
     """The progress callback of a call. It calls `progress` and lets the handlers of signals run. An exception
     of either stops the call, and is raised at the end of the `with` block.
+
+    `slices` returns the number of all slices. It is called only if the library computes, and somebody needs to know.
 
     The callback resumes a generator, because Python runs handlers when it resumes one, and then the generator's `try`
     catches what they raise. In a function, handlers would run before the first line, and their exceptions be lost.
     """
 
-    def __init__(self, progress: "Optional[Progress]", slices: int) -> None:
+    def __init__(self, progress: "Optional[Progress]", slices: "Callable[[], int]") -> None:
         self._raised: "List[BaseException]" = []
         self._is_entered = False
         self._generator = self._answers(progress, slices)
         next(self._generator)
         self.send = self._generator.send
 
-    def _answers(self, progress: "Optional[Progress]", slices: int) -> "Generator[int, object, None]":
+    def _answers(
+        self, progress: "Optional[Progress]", slices: "Callable[[], int]"
+    ) -> "Generator[int, object, None]":
         """Yield 1 to stop the call and 0 to go on: once before the call, and then once for each slice."""
+        done = 0
         try:
             yield 0
-            for done in range(1, slices + 1):
+            while True:
+                done += 1
                 if progress is not None:
-                    progress(done, slices)
+                    progress(done, 0 if isinstance(progress, Stop) else slices())
                 yield 0
         except BaseException as error:
             if not self._is_entered:  # Python is closing the generator.
@@ -245,65 +275,38 @@ def _runs_handlers() -> bool:
     return threading is None or threading.get_ident() == threading.main_thread().ident
 
 
-def _options(
-    threads: int, limits: "Optional[NumberLimits]", pages: "Optional[Pages]", callback: "Optional[ProgressCallback]"
-) -> Options:
-    """Return options for a call. They keep the limits and the progress callback alive, but not the pages."""
-    options = Options(ctypes.sizeof(Options), threads)
-    if pages is not None:
-        options.memory, options.memory_len = pages.address, pages.length
-    if limits is not None:
-        options.limits = ctypes.pointer(limits)
-    if callback is not None:
-        options.progress = _Progress(callback.send)
-    return options
-
-
 def _compute(
-    call: "Callable[[Options], int]",
-    settings: Settings,
-    memory: "Union[Memory, ThreadMemory, None]",
+    call: "Callable[..., Any]",
+    options: Options,
+    arguments: "Sequence[Any]",
+    memory: "Optional[Memory]",
     progress: "Optional[Progress]",
-    limits: "Optional[NumberLimits]" = None,
-) -> None:
-    """Make a call with a thread for each lane. It uses a buffer of `memory`, or allocates memory if that is `None`.
+    slices: "Callable[[], int]",
+) -> int:
+    """Make a call, in kept buffers if there is a `memory`, and return its number.
 
-    A call that finds the buffer too small is made again with a larger one: by then the library has accepted the
-    settings. If the system denies the larger buffer, the call allocates memory of its own.
+    It has a callback only if something can stop it: without one, the proved code computes a whole hash of one lane.
     """
-
-    def over_memory(callback: "Optional[ProgressCallback]") -> int:
-        if memory is None:
-            return call(_options(settings.lanes, limits, None, callback))
-        with memory.pages_for_call(settings) as pages:
-            number = call(_options(settings.lanes, limits, pages, callback))
-            if number == OUT_OF_MEMORY and pages is not None and pages.is_too_small(settings):
-                grown = pages if pages.grow(settings) else None
-                number = call(_options(settings.lanes, limits, grown, callback))
-            if pages is not None:
-                pages.is_used = number in (OK, MISMATCH, STOPPED)
-        return number
-
+    if memory is not None:
+        options.buffers = memory.handle
     if progress is None and not _runs_handlers():
-        _require(over_memory(None))
-        return
-    with ProgressCallback(progress, 4 * settings.time_cost) as callback:
-        number = over_memory(callback)
-    _require(number)
+        return int(call(options, *arguments))
+    with ProgressCallback(progress, slices) as callback:
+        options.progress = _Progress(callback.send)
+        return int(call(options, *arguments))
 
 
 def hash_pieces(
     is_encoded: bool,
     pieces: "Sequence[bytes]",
     settings: Settings,
-    memory: "Union[Memory, ThreadMemory, None]",
+    memory: "Optional[Memory]",
     progress: "Optional[Progress]",
 ) -> bytes:
     """Return the tag, or the encoded hash, of four pieces: password, salt, secret and associated data.
 
-    The library checks the settings first, before any memory is allocated.
+    The library checks the settings first, before any memory is allocated, and uses a thread for each lane.
     """
-    arguments = [*_slices(pieces), settings]
     _require(_library.proved_argon2_check(settings, *map(_length, pieces)))
     if is_encoded:
         call = _library.proved_argon2_hash_encoded_with
@@ -311,45 +314,83 @@ def hash_pieces(
     else:
         call = _library.proved_argon2_hash_raw_with
         out = _buffer(settings.hash_length)
-    _compute(lambda options: int(call(options, *arguments, out, len(out))), settings, memory, progress)
+    options, arguments = _options(settings.lanes), [*_slices(pieces), settings, out, len(out)]
+    _require(_compute(call, options, arguments, memory, progress, lambda: int(SLICES * settings.time_cost)))
     return out.value if is_encoded else out.raw
 
 
 def verify_pieces(
     pieces: "Sequence[bytes]",
-    settings: Settings,
     limits: "Optional[NumberLimits]",
-    memory: "Union[Memory, ThreadMemory, None]",
+    memory: "Optional[Memory]",
     progress: "Optional[Progress]",
-) -> None:
-    """Verify four pieces: an encoded hash with these settings, password, secret and associated data.
+    new: "Optional[Tuple[Settings, int]]" = None,
+) -> bool:
+    """Verify four pieces: an encoded hash, password, secret and associated data. `new` has the settings and the length
+    of the salt of new hashes. Return whether the encoded hash has others. The library uses a thread for each lane, and
+    at most 16.
 
-    Raises `Refused` if they do not match, or the hash is above the limits. The library uses at most 16 threads for
-    this, even if there are more lanes.
+    Raises `Refused` if they do not match, or the hash is above the limits.
     """
-    arguments = _slices(pieces)
+    options = _options(MAX_NUMBER)
+    if limits is not None:
+        options.limits = ctypes.pointer(limits)
+    if new is not None:
+        options.new_settings, options.new_salt_len = ctypes.pointer(new[0]), new[1]
     call = _library.proved_argon2_verify_encoded_with
-    _compute(lambda options: int(call(options, *arguments)), settings, memory, progress, limits)
+    number = _compute(
+        call, options, _slices(pieces), memory, progress, lambda: int(SLICES * read(pieces[0]).settings.time_cost))
+    if new is not None and number == NEEDS_REHASH:
+        return True
+    _require(number)
+    return False
 
 
-def memory_len(settings: Settings) -> int:
-    """Return the bytes that a call with these settings needs for its blocks."""
-    return int(_library.proved_argon2_memory_len(settings))
+def verify_unknown(
+    settings: Settings, password: bytes, secret: bytes, memory: "Optional[Memory]", progress: "Optional[Progress]"
+) -> None:
+    """Compute a hash with these settings, which takes as long as verifying one. Raises `Refused` if that fails."""
+    call, options = _library.proved_argon2_password_verify_unknown, _options(MAX_NUMBER)
+    arguments = [settings, *_slices((password, secret))]
+    number = _compute(call, options, arguments, memory, progress, lambda: int(SLICES * settings.time_cost))
+    if number != MISMATCH:
+        raise Refused(number)
 
 
-def memory_new(settings: Settings) -> "Tuple[int, int]":
-    """Allocate a buffer for calls with these settings. Return its address and its length."""
-    address, length = ctypes.c_void_p(), ctypes.c_size_t()
-    _require(_library.proved_argon2_memory_new(settings, address, length))
-    return address.value or 0, length.value
+def tuned(most: Settings, nanoseconds: int, progress: "Optional[Progress]") -> "Optional[Tuned]":
+    """Search for settings with at most the memory of `most`. Return `None` if none is fast enough."""
+    found = Tuned()
+    call, options = _library.proved_argon2_tune, _options(most.lanes)
+    number = _compute(call, options, [most, nanoseconds, found], None, progress, lambda: 0)
+    if number == TOO_COSTLY:
+        return None
+    _require(number)
+    return found
 
 
-def memory_free(address: int, length: int, library: ctypes.CDLL = _library) -> None:
-    """Clear a buffer and free it.
+def _options(threads: int) -> Options:
+    return Options(ctypes.sizeof(Options), threads)
+
+
+def buffers_new(memory_cost: int, most: int) -> int:
+    """Return the address of a handle for at most `most` kept buffers of `memory_cost` KiB."""
+    handle = ctypes.c_void_p()
+    settings = Settings(variant=2, version=0x13, mem_cost=memory_cost, time_cost=1, lanes=1, hash_length=32)
+    _require(_library.proved_argon2_buffers_new(settings, most, handle))
+    return handle.value or 0
+
+
+def buffers_free_idle(handle: "Optional[int]") -> int:
+    """Free idle buffers of a handle. Return the milliseconds until the next one can be freed, or 0 if none is idle."""
+    return int(_library.proved_argon2_buffers_free_idle(handle))
+
+
+def buffers_free(handle: "Optional[int]", library: ctypes.CDLL = _library) -> None:
+    """Free a handle and its buffers.
 
     The default argument keeps the library usable while Python ends, when this module's names may be gone.
     """
-    library.proved_argon2_memory_free(address, length)
+    library.proved_argon2_buffers_free(handle)
 
 
 def default_limits() -> NumberLimits:

@@ -2,8 +2,8 @@
 import os
 import warnings
 
-from ._library import Refused, Settings, read, require_number
-from ._memory import Memory
+from ._library import DECODING_FAIL, Refused, Settings, read, require_number, verify_pieces, verify_unknown
+from ._memory import Memory, current_thread
 from ._settings import DEFAULT_LIMITS, Limits, Parameters, default_limits_of, require_own_settings_within
 from .exceptions import HashingError, InvalidHashError, VerificationError, VerifyMismatchError
 from .low_level import (
@@ -13,8 +13,8 @@ from .low_level import (
     hash_secret_raw,
     numbers_of,
     reading_error,
-    verify_of_settings,
     verify_secret,
+    verifying_error,
 )
 from .profiles import RFC_9106_LOW_MEMORY
 
@@ -85,7 +85,8 @@ class PasswordHasher:
     the hasher uses `DEFAULT_LIMITS`, or its own settings where higher. Limits below its own settings raise
     `ValueError`.
 
-    With `keep_memory`, the hasher reuses the memory of its calls, as `low_level.Memory` does.
+    With `keep_memory`, the hasher reuses the memory of its calls, as `low_level.Memory` does. Then a `memory_cost` that
+    no hash can have raises `HashingError` at once.
 
     `secret` is a key (pepper), which you store apart from the hashes. No password matches with another secret. Copies
     and pickles of the hasher contain the secret, but its `repr` does not.
@@ -118,7 +119,7 @@ class PasswordHasher:
             self._limits: "Optional[Limits]" = default_limits_of(memory_cost, time_cost, parallelism)
         else:
             self.limits = limits
-        self._memory = Memory() if keep_memory else None
+        self._memory = Memory(memory_cost) if keep_memory else None
         self._secret = secret
 
     @classmethod
@@ -230,11 +231,8 @@ class PasswordHasher:
         encoded hash. Raises `VerificationError` if the rest of it is invalid, its settings are rejected or memory
         cannot be allocated. Raises `UnicodeEncodeError` as `hash()` does.
         """
-        require_types(associated_data=(associated_data, bytes))
-        encoded, secret = _encoded_bytes(hash), self._password_bytes(password)
-        settings, limits = self._settings_of(encoded), numbers_of(self.limits)
-        pieces = encoded, secret, self._secret, associated_data
-        return verify_of_settings(settings, pieces, limits, self._memory, progress)
+        self._verify(hash, password, associated_data, progress, self)
+        return True
 
     def verify_and_update(
         self,
@@ -253,14 +251,15 @@ class PasswordHasher:
 
         Raises what `verify` raises, except for a wrong password.
         """
-        try:
-            self.verify(hash, password, associated_data=associated_data, progress=progress)
-        except VerifyMismatchError:
-            return False, None
         hasher = self if renew_by is None else renew_by
         try:
-            is_due = hasher._secret != self._secret or hasher.check_needs_rehash(hash)
-            return True, hasher.hash(password, associated_data=associated_data, progress=progress) if is_due else None
+            is_due = self._verify(hash, password, associated_data, progress, hasher)
+        except VerifyMismatchError:
+            return False, None
+        if not is_due:
+            return True, None
+        try:
+            return True, hasher.hash(password, associated_data=associated_data, progress=progress)
         except (HashingError, MemoryError):
             return True, None
 
@@ -273,10 +272,13 @@ class PasswordHasher:
 
         Raises what `verify` raises, except for a wrong password.
         """
+        secret = self._password_bytes(password)
+        for name in ("memory_cost", "time_cost", "parallelism", "hash_len"):
+            require_number(name, getattr(self, name), VerificationError)
         try:
-            self.verify(self._hash_of_nobody(), password, progress=progress)
-        except VerifyMismatchError:
-            pass
+            verify_unknown(self._settings(), secret, self._secret, self._memory or current_thread.memory, progress)
+        except Refused as refused:
+            raise verifying_error(refused) from None
         return False
 
     def check_needs_rehash(self, hash: "Union[str, bytes]") -> bool:
@@ -286,27 +288,35 @@ class PasswordHasher:
         """
         return self._parameters != extract_parameters(hash)
 
-    def _hash_of_nobody(self) -> str:
-        """Return an encoded hash with these settings. Its salt and its hash are zeros, for which base64 has `A`."""
-        numbers = f"v={ARGON2_VERSION}$m={self.memory_cost},t={self.time_cost},p={self.parallelism}"
-        salt, tag = ("A" * -(-length * 4 // 3) for length in (self.salt_len, self.hash_len))
-        return f"$argon2{self.type.name.lower()}${numbers}${salt}${tag}"
+    def _verify(
+        self,
+        hash: "Union[str, bytes]",
+        password: "Union[str, bytes]",
+        associated_data: bytes,
+        progress: "Optional[Progress]",
+        hasher: "PasswordHasher",
+    ) -> bool:
+        """Verify a password. Return whether a hash of another hasher has another secret, settings or length of salt.
 
-    @staticmethod
-    def _settings_of(encoded: bytes) -> Settings:
-        """Return the settings of an encoded hash.
-
-        As in argon2-cffi, a string that does not begin as one raises `InvalidHashError`, and all other strings that
-        cannot be decoded raise `VerificationError`.
+        As in argon2-cffi, a string that does not begin as an encoded hash raises `InvalidHashError`, and all other
+        strings that cannot be decoded raise `VerificationError`.
         """
+        require_types(associated_data=(associated_data, bytes))
+        encoded, secret = _encoded_bytes(hash), self._password_bytes(password)
+        pieces, new = (encoded, secret, self._secret, associated_data), (hasher._settings(), hasher.salt_len)
         try:
-            settings: Settings = read(encoded).settings
-            return settings
+            has_others = verify_pieces(
+                pieces, numbers_of(self.limits), self._memory or current_thread.memory, progress, new)
         except Refused as refused:
-            error = reading_error(refused)
-        if isinstance(error, InvalidHashError) and not encoded.startswith(_BEGINNINGS):
-            raise error
-        raise VerificationError(str(error))
+            if refused.number == DECODING_FAIL and not encoded.startswith(_BEGINNINGS):
+                raise InvalidHashError(str(refused)) from None
+            raise verifying_error(refused) from None
+        return has_others or hasher._secret != self._secret
+
+    def _settings(self) -> Settings:
+        """Return the settings as the library takes them: `ctypes` passes only the lowest 32 bits of each number."""
+        numbers = self.memory_cost, self.time_cost, self.parallelism, self.hash_len
+        return Settings(self.type.value, ARGON2_VERSION, *numbers)
 
     def _password_bytes(self, password: "Union[str, bytes]") -> bytes:
         if isinstance(password, str):

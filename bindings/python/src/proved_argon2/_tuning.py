@@ -1,26 +1,27 @@
 """A search for strong settings that this machine computes in a given time."""
 import os
-import time
+from dataclasses import dataclass
 
-from ._library import require_number
-from ._password_hasher import DEFAULT_MEMORY_COST, PasswordHasher
+from ._library import Refused, Settings, require_number, tuned
+from ._password_hasher import DEFAULT_MEMORY_COST
 from ._pool import Pool
-from ._settings import DEFAULT_LIMITS, Parameters, Record
+from ._settings import Parameters
+from .exceptions import HashingError
+from .low_level import Type
 from .profiles import OWASP
 
 TYPE_CHECKING = False
 if TYPE_CHECKING:
-    from typing import Optional, Tuple
+    from typing import Optional
 
     from ._library import Progress
 
-# The least memory in KiB, and the least work, of OWASP's recommendations. A hash of less protects no password.
-_LEAST_MEMORY = 7168
-_LEAST_WORK = 5 * _LEAST_MEMORY
-_ROUNDS = 3
+_NANOSECONDS = 10**6  # of a millisecond
+_MOST_MILLISECONDS = 10**9  # eleven days
 
 
-class Tuning(Record):
+@dataclass
+class Tuning:
     """The settings that `tune` found.
 
     `parameters` are the settings. `milliseconds` is the time of a hash with them, the shortest of several. `load` is
@@ -28,12 +29,9 @@ class Tuning(Record):
     programs make hashes slower.
     """
 
-    __slots__ = ("parameters", "milliseconds", "load")
-
-    def __init__(self, parameters: Parameters, milliseconds: float, load: "Optional[float]") -> None:
-        self.parameters = parameters
-        self.milliseconds = milliseconds
-        self.load = load
+    parameters: Parameters
+    milliseconds: float
+    load: "Optional[float]"
 
 
 def tune(milliseconds: float, memory_cost: int = DEFAULT_MEMORY_COST, parallelism: int = 1) -> Tuning:
@@ -45,12 +43,11 @@ def tune(milliseconds: float, memory_cost: int = DEFAULT_MEMORY_COST, parallelis
     Raises `ValueError` if even the weakest settings that protect passwords (7 MiB and 5 passes, or the same work) take
     longer or `memory_cost` is lower, and `HashingError` if the settings are rejected or memory cannot be allocated.
     """
-    return _search(milliseconds, memory_cost, parallelism, progress=lambda done, hashes: None)
+    return _search(milliseconds, memory_cost, parallelism)
 
 
 async def tune_async(milliseconds: float, memory_cost: int = DEFAULT_MEMORY_COST, parallelism: int = 1) -> Tuning:
-    """Do what `tune` does, in a thread, so that the event loop goes on meanwhile. Cancelling the task ends the search
-    after the hash that it measures.
+    """Do what `tune` does, in a thread, so that the event loop goes on meanwhile. Cancelling the task ends the search.
 
     Raises what `tune` raises, and `BusyError` if the system denies the thread.
     """
@@ -58,48 +55,25 @@ async def tune_async(milliseconds: float, memory_cost: int = DEFAULT_MEMORY_COST
     return tuning
 
 
-def _search(milliseconds: float, memory_cost: int, parallelism: int, progress: "Progress") -> Tuning:
-    """Do what `tune` does, and call `progress` before each hash."""
+def _search(
+    milliseconds: float, memory_cost: int, parallelism: int, progress: "Optional[Progress]" = None
+) -> Tuning:
     if not isinstance(milliseconds, (int, float)) or isinstance(milliseconds, bool):
         raise TypeError(f"'milliseconds' must be a number, not {milliseconds.__class__.__name__}")
     require_number("memory_cost", memory_cost, ValueError)
-    memory = memory_cost
-    while memory >= _LEAST_MEMORY:
-        passes = -(-_LEAST_WORK // memory)
-        took = _measure(memory, passes, parallelism, progress)
-        if took <= milliseconds:
-            passes, took = _more_passes(milliseconds, (memory, passes, parallelism), took, progress)
-            return _tuning(memory, passes, parallelism, took)
-        memory //= 2
-    raise ValueError(
-        f"with at most {memory_cost} KiB no settings that protect passwords take at most {milliseconds} ms here"
-    )
-
-
-def _more_passes(
-    milliseconds: float, settings: "Tuple[int, int, int]", took: float, progress: "Progress"
-) -> "Tuple[int, float]":
-    """Return as many passes as there is time for, at least those of the settings, and the milliseconds they take."""
-    memory, least, parallelism = settings
-    most = int(min(least * milliseconds / took, DEFAULT_LIMITS.time_cost, DEFAULT_LIMITS.work // memory))
-    for passes in range(most, least, -1):
-        took_more = _measure(memory, passes, parallelism, progress)
-        if took_more <= milliseconds:
-            return passes, took_more
-    return least, took
-
-
-def _tuning(memory: int, passes: int, parallelism: int, took: float) -> Tuning:
-    parameters = Parameters(OWASP.type, OWASP.version, OWASP.salt_len, OWASP.hash_len, passes, memory, parallelism)
-    return Tuning(parameters, took, os.getloadavg()[0] if hasattr(os, "getloadavg") else None)
-
-
-def _measure(memory: int, passes: int, parallelism: int, progress: "Progress") -> float:
-    """Return the milliseconds of a hash, the least of a few."""
-    hasher, least = PasswordHasher(passes, memory, parallelism), float("inf")
-    for done in range(_ROUNDS):
-        progress(done, _ROUNDS)
-        begun = time.perf_counter()
-        hasher.hash(b"", salt=b"somesalt")
-        least = min(least, 1000 * (time.perf_counter() - begun))
-    return least
+    require_number("parallelism", parallelism, HashingError)
+    most = Settings(OWASP.type.value, OWASP.version, memory_cost, OWASP.time_cost, parallelism, OWASP.hash_len)
+    within = min(milliseconds, _MOST_MILLISECONDS) if milliseconds > 0 else 0  # No time is below NaN milliseconds.
+    try:
+        found = tuned(most, int(within * _NANOSECONDS), progress)
+    except Refused as refused:
+        raise HashingError(str(refused)) from None
+    if found is None:
+        raise ValueError(
+            f"with at most {memory_cost} KiB no settings that protect passwords take at most {milliseconds} ms here"
+        )
+    own = found.settings
+    parameters = Parameters(
+        Type(own.variant), own.version, OWASP.salt_len, own.hash_length, own.time_cost, own.mem_cost, own.lanes)
+    load = os.getloadavg()[0] if hasattr(os, "getloadavg") else None
+    return Tuning(parameters, found.nanoseconds / _NANOSECONDS, load)

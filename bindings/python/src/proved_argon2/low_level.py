@@ -3,13 +3,14 @@
 As in argon2-cffi, `secret` is the password here. `key` is what RFC 9106 calls the secret value (a pepper), and
 `associated_data` is other data that the hash depends on.
 
-A hash uses at most one thread for each lane, the caller's among them, and at most 16 to verify. If `memory`
-is a `Memory`, the call reuses a buffer of it.
+A hash uses at most one thread for each lane, the caller's among them, and at most 16 to verify. If `memory` is a
+`Memory`, the call reuses a buffer of it.
 
 `progress` is called as `progress(done, all)` after each slice of the computation; there are four slices in a pass. If
 it raises an exception, the call stops, clears its memory and raises the same. The same happens to a call in the main
 thread if a signal handler raises, as Ctrl-C does with `KeyboardInterrupt`.
 """
+from dataclasses import astuple
 from enum import Enum
 
 from ._library import (
@@ -169,28 +170,21 @@ def verify_secret(
     _require_bytes(hash=hash, secret=secret, key=key, associated_data=associated_data)
     numbers = numbers_of(limits)
     try:
-        settings = read(hash).settings
-        if settings.variant != Type(type).value:
+        if read(hash).settings.variant != Type(type).value:
             raise Refused(DECODING_FAIL)
     except Refused as refused:
         raise VerificationError(str(refused)) from None
-    return verify_of_settings(settings, (hash, secret, key, associated_data), numbers, memory, progress)
-
-
-def verify_of_settings(
-    settings: Settings,
-    pieces: "Sequence[bytes]",
-    limits: "Optional[NumberLimits]",
-    memory: "Optional[Memory]",
-    progress: "Optional[Progress]",
-) -> "Literal[True]":
-    """Do what `verify_secret` does, for an encoded hash whose settings were read."""
     try:
-        verify_pieces(pieces, settings, limits, memory or current_thread.memory, progress)
+        verify_pieces((hash, secret, key, associated_data), numbers, memory or current_thread.memory, progress)
     except Refused as refused:
-        errors = {MISMATCH: VerifyMismatchError, TOO_COSTLY: TooCostlyError}
-        raise errors.get(refused.number, VerificationError)(str(refused)) from None
+        raise verifying_error(refused) from None
     return True
+
+
+def verifying_error(refused: Refused) -> VerificationError:
+    """Return the exception for a password that was not verified."""
+    errors = {MISMATCH: VerifyMismatchError, TOO_COSTLY: TooCostlyError}
+    return errors.get(refused.number, VerificationError)(str(refused))
 
 
 def numbers_of(limits: "Optional[Limits]") -> "Optional[NumberLimits]":
@@ -199,7 +193,7 @@ def numbers_of(limits: "Optional[Limits]") -> "Optional[NumberLimits]":
         return None
     if not isinstance(limits, Limits):
         raise TypeError(f"'limits' must be Limits, not {limits.__class__.__name__}")
-    return NumberLimits(*limits._values())
+    return NumberLimits(*astuple(limits))
 
 
 def error_to_str(error: int) -> str:
