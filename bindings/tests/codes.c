@@ -140,8 +140,8 @@ uint32_t proved_argon2_password_verify_unknown(
     const proved_argon2_options *with, const proved_argon2_settings *settings, PWD, PIECE(secret))
 {
     take(with);
-    snprintf(passed[COMPUTING], sizeof *passed, "unknown %.*s %.*s " SETTINGS, SHOWN(pwd), SHOWN(secret),
-        EACH(settings));
+    snprintf(
+        passed[COMPUTING], sizeof *passed, "unknown %.*s %.*s " SETTINGS, SHOWN(pwd), SHOWN(secret), EACH(settings));
     return answer;
 }
 
