@@ -77,7 +77,7 @@ def test_the_table_for_c_has_each_call_and_the_definitions_that_its_clause_names
         assert {*re.findall(r'(\w+): ', clauses[name].partition('->')[0])} <= {*re.findall(r'\w+', parameters[name])}
     table, told = re.findall(r'^\| (.*[`*\]].*?) \| .* \| (none|\[.*) \|.*\|$', read('docs/C.md'), re.M), set()
     for calls, cited in table:
-        names, links = re.findall(r'`(\w+)`', calls), re.findall(r'\[`(\w+)`\]', cited)
+        names, links = re.findall(r'`proved_argon2_(\w+)`', calls), re.findall(r'\[`(\w+)`\]', cited)
         told |= {*names}
         proved = [clauses['any_order_of_steps']] if '/Runs.antt' in cited else [
             f'proved_argon2_{name}{clauses[name]}' for name in names if name in clauses]
