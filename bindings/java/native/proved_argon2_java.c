@@ -113,8 +113,8 @@ static uint32_t compute(jint call, const proved_argon2_options *options, const b
     if (call == VERIFY_UNKNOWN)
         return proved_argon2_password_verify_unknown(options, options->new_settings, BYTES(PASSWORD), BYTES(PEPPER));
     if (call == HASH_RAW)
-        return proved_argon2_hash_raw_with(options, BYTES(PASSWORD), BYTES(SALT), BYTES(PEPPER), BYTES(DATA),
-            options->new_settings, BYTES(TEXT));
+        return proved_argon2_hash_raw_with(
+            options, BYTES(PASSWORD), BYTES(SALT), BYTES(PEPPER), BYTES(DATA), options->new_settings, BYTES(TEXT));
     return proved_argon2_hash_encoded_with(options, BYTES(PASSWORD), BYTES(SALT), BYTES(PEPPER), BYTES(DATA),
         options->new_settings, (char *)of[TEXT].at, of[TEXT].len);
 }
