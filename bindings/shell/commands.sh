@@ -5,7 +5,7 @@
 #     version     the version
 #     help        the file help.txt, in which NAME is replaced by that name
 #     prepare     a function that makes the program ready and sets `program` to its file, and `is_known` if the program
-#                 is known to load on this system
+#                 is known to load on this system. `prepare in_c` does so with the program in C
 #
 # `--help`, `--version` and `tune` are done here. All else is passed on, with the standard streams, and the program says
 # which argument is wrong. `new` also gets a random salt, and OWASP's settings if it has none. On a terminal, the script
@@ -21,13 +21,8 @@ owasp_settings='argon2id 19 2 19456 1 32 seq'
 # The memory that `tune` measures first if none is named, in KiB: RFC 9106's second recommendation.
 tuned_memory=65536
 
-# OWASP's least memory in KiB, and its least work: a hash with less does not protect a password well.
+# OWASP's least memory in KiB: a hash with less does not protect a password well.
 least_memory=7168
-least_work=35840
-
-# The most passes that `check` takes, and the salt that is measured with, in hexadecimal.
-most_passes=10
-tuned_salt=736f6d6573616c74
 
 # Where Linux says how many programs have run at once in the last minute.
 loads=/proc/loadavg
@@ -112,10 +107,10 @@ judge() {
     exit "$status"
 }
 
-# Makes the program ready. Exits if there is none, or if none can be loaded here.
+# Makes the program ready, or that in C: `make_ready [in_c]`. Exits if there is none, or if none can be loaded here.
 make_ready() {
     is_known=
-    prepare || exit 70
+    prepare "$@" || exit 70
     [ "$is_known" ] || require_loader
     GLIBC_TUNABLES=${GLIBC_TUNABLES-$tunables}
     export GLIBC_TUNABLES
@@ -269,38 +264,6 @@ is_number() {
     esac
 }
 
-# Clears the line of progress on a terminal and writes another: `progress LINE`.
-progress() {
-    [ ! -t 2 ] || printf '\r\033[K%s' "$1" >&2
-}
-
-# `1 pass`, or `N passes`: `count_passes PASSES`.
-count_passes() {
-    [ "$1" = 1 ] && echo '1 pass' || echo "$1 passes"
-}
-
-# Sets `took` to the milliseconds of a hash, the least of three: `measure PASSES MEMORY`. It fails where `check` would
-# reject the hash.
-measure() {
-    took=
-    for turn in 1 2 3; do
-        progress "$(count_passes "$1") over $2 KiB, measurement $turn of 3"
-        began=$(date +%s%N)
-        said=$(printf password | "$program" new argon2id 19 "$1" "$2" 1 32 seq "$tuned_salt" 2>&1 >/dev/null)
-        status=$?
-        case $status in
-        0) ;;
-        5) return 1 ;;
-        *) progress '' && printf '%s\n' "$said" >&2 && exit "$status" ;;
-        esac
-        ended=$(date +%s%N)
-        case $ended in *[!0-9]*) ended= ;; esac
-        [ "${#ended}" -ge 19 ] || fail 4 'there is no clock of milliseconds'
-        elapsed=$(((ended - began) / 1000000 + 1))
-        [ -n "$took" ] && [ "$elapsed" -ge "$took" ] || took=$elapsed
-    done
-}
-
 # Warns if other programs may have disturbed the measurement.
 tell_of_load() {
     processors=$(getconf _NPROCESSORS_ONLN) && { read -r load _ <"$loads"; } 2>/dev/null || return 0
@@ -308,8 +271,8 @@ tell_of_load() {
 programs a hash takes less time than was measured"
 }
 
-# Prints strong settings whose hash took at most MILLISECONDS: memory is halved until a hash fits, then passes
-# are added, as in the other languages: `tune MILLISECONDS [KIB]`.
+# Prints strong settings whose hash took at most MILLISECONDS, within KIB: `tune MILLISECONDS [KIB]`. The program in C
+# measures them. It prints the passes, the memory and the time.
 tune() {
     [ $# != 1 ] || set -- "$1" "$tuned_memory"
     { [ $# = 2 ] && is_number "$1" && is_number "$2"; } || {
@@ -318,41 +281,19 @@ tune() {
     }
     [ "$1" -le 60000 ] || fail 2 'tune: at most 60000 milliseconds'
     [ "$2" -ge "$least_memory" ] || fail 2 "tune: less than $least_memory KiB are too little for passwords"
-    make_ready
-    find_memory "$1" "$2"
-    add_passes "$1"
-    progress ''
-    tell_of_load
-    [ ! -t 2 ] || printf '%s milliseconds:\n' "$took" >&2
-    printf 'argon2id 19 %s %s 1 32 seq\n' "$passes" "$memory" || exit 4
-}
-
-# Sets `memory` to the most memory whose hash takes at most MILLISECONDS, `passes` to the fewest passes for it, and
-# `took` to its time: `find_memory MILLISECONDS KIB`.
-find_memory() {
-    memory=$2 took=$(($1 + 1))
-    while [ "$took" -gt "$1" ] && [ "$memory" -ge "$least_memory" ]; do
-        passes=$(((least_work - 1) / memory + 1))
-        measure "$passes" "$memory" || { progress '' && fail 5 "tune: check takes no hash of $memory KiB"; }
-        [ "$took" -le "$1" ] || memory=$((memory / 2))
-    done
-    [ "$took" -gt "$1" ] || return 0
-    progress ''
-    tell_of_load
-    fail 1 "tune: no settings for passwords within $2 KiB take at most $1 milliseconds here"
-}
-
-# Raises `passes`, whose hash took `took`, to the most whose hash takes at most MILLISECONDS and passes `check`:
-# `add_passes MILLISECONDS`.
-add_passes() {
-    fitting=$passes
-    fitting_took=$took
-    passes=$((passes * $1 / took))
-    [ "$passes" -le "$most_passes" ] || passes=$most_passes
-    while [ "$passes" -gt "$fitting" ]; do
-        ! measure "$passes" "$memory" || [ "$took" -gt "$1" ] || return 0
-        passes=$((passes - 1))
-    done
-    passes=$fitting
-    took=$fitting_took
+    make_ready in_c
+    found=$("$program" tune argon2id 19 1 "$2" 1 32 seq "$1" </dev/null)
+    status=$?
+    case $status in
+    0 | 1) tell_of_load ;;
+    5) fail 5 "tune: check takes no hash of $2 KiB" ;;
+    *) exit "$status" ;;
+    esac
+    [ "$status" = 0 ] \
+        || fail 1 "tune: no settings for passwords within $2 KiB take at most $1 milliseconds here"
+    # The three numbers are to be split.
+    # shellcheck disable=SC2086
+    set -- $found
+    [ ! -t 2 ] || printf '%s milliseconds:\n' "$3" >&2
+    printf 'argon2id 19 %s %s 1 32 seq\n' "$1" "$2" || exit 4
 }

@@ -11,9 +11,11 @@
 
 #define DIGITS "0123456789"
 #define HEX DIGITS "abcdefABCDEF"
+#define SLICES 4                      /* of a pass */
+#define NANOSECONDS UINT64_C(1000000) /* of a millisecond */
 
 enum status { TRUE, FALSE, REFUSED, USAGE, STREAM, TOO_COSTLY };
-enum action { HASH, VERIFY, REHASH };
+enum action { HASH, VERIFY, REHASH, TUNE };
 
 /* A command: the kinds of its arguments, and whether it has limits. */
 static const struct command {
@@ -26,6 +28,7 @@ static const struct command {
     {"hash", "vrnnnnms", "hash takes VARIANT VERSION T M P LEN MODE SALT", HASH, 0},
     {"verify", "s", "verify takes one argument, the encoded hash", VERIFY, 0},
     {"rehash", "vrnnnns", "rehash takes VARIANT VERSION T M P LEN TEXT", REHASH, 0},
+    {"tune", "vrnnnnmn", "tune takes VARIANT VERSION T M P LEN MODE MILLISECONDS", TUNE, 0},
     {NULL, NULL, NULL, HASH, 0},
 };
 
@@ -33,9 +36,10 @@ static const struct command *command = commands;
 static size_t most_read; /* bytes: one more than the longest password */
 static proved_argon2_settings settings;
 static proved_argon2_options with = PROVED_ARGON2_OPTIONS;
-/* where the numbers of the arguments VARIANT VERSION T M P LEN MODE go */
+static uint32_t milliseconds;
+/* where the numbers of the arguments VARIANT VERSION T M P LEN MODE MILLISECONDS go */
 static uint32_t *const read_to[8] = {&settings.variant, &settings.version, &settings.time_cost, &settings.mem_cost,
-    &settings.lanes, &settings.hash_length, &with.threads};
+    &settings.lanes, &settings.hash_length, &with.threads, &milliseconds};
 static uint8_t *password;
 static size_t password_len;
 
@@ -233,15 +237,39 @@ static int verify(const char *text)
     return answer(code, PROVED_ARGON2_OK, PROVED_ARGON2_MISMATCH);
 }
 
+/* Says on a terminal what is measured, after the first slice of each hash. */
+static int show_passes(void *arg, uint64_t done, uint64_t all)
+{
+    (void)arg;
+    if (done == 1) fprintf(stderr, "\r\033[Kmeasuring a hash with %llu passes", (unsigned long long)all / SLICES);
+    return 0;
+}
+
+/* Prints the passes and the memory of the strongest settings within MILLISECONDS and M, and how long a hash took. */
+static int tune(const proved_argon2_limits *most)
+{
+    proved_argon2_tuning found;
+    if (settings.mem_cost > most->mem_cost) return TOO_COSTLY;
+    if (isatty(STDERR_FILENO)) with.progress = show_passes;
+    const uint32_t code = proved_argon2_tune(&with, &settings, milliseconds * NANOSECONDS, &found);
+    if (with.progress != NULL) fputs("\r\033[K", stderr);
+    if (code == PROVED_ARGON2_TOO_COSTLY) return FALSE;
+    if (code != PROVED_ARGON2_OK) return refuse(code);
+    printf("%lu %lu %llu\n", (unsigned long)found.settings.time_cost, (unsigned long)found.settings.mem_cost,
+        (unsigned long long)((found.nanoseconds + NANOSECONDS - 1) / NANOSECONDS));
+    return is_written() ? TRUE : STREAM;
+}
+
 int main(int count, char **word)
 {
     const proved_argon2_limits most = proved_argon2_default_limits();
     if (!is_command(count - 1, word + 1)) return USAGE;
     char *const last = word[count - 1];
-    int status = command->does == REHASH ? TRUE : read_password();
+    int status = command->does == REHASH || command->does == TUNE ? TRUE : read_password();
     with.limits = command->is_limited ? &most : NULL;
     if (status == TRUE) {
         status = command->does == HASH ? hash(last, &most)
+            : command->does == TUNE    ? tune(&most)
             : command->does == REHASH  ? answer(proved_argon2_needs_rehash(last, strlen(last), &settings),
                    PROVED_ARGON2_NEEDS_REHASH, PROVED_ARGON2_OK)
                                        : verify(last);

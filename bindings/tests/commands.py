@@ -1,11 +1,6 @@
 """What the tests of the shell's commands share."""
-import contextlib
 import ctypes
-import itertools
-import os
-import pathlib
 import subprocess
-import tempfile
 
 import pytest
 import running
@@ -38,19 +33,6 @@ def piped(words, stdin=b"", command=None, **more):
     """The status, standard output and standard error of the words."""
     done = subprocess.run([*(command or COMMAND), *words], input=stdin, capture_output=True, timeout=600, **more)
     return done.returncode, done.stdout, done.stderr
-
-
-@contextlib.contextmanager
-def clock(*milliseconds):
-    """An environment in which `tune` measures these times, one after another: each call of `date` prints the next
-    line."""
-    with tempfile.TemporaryDirectory() as folder:
-        lines, date = pathlib.Path(folder, "lines"), pathlib.Path(folder, "date")
-        lines.write_text("".join(f"{number}000000000\n{number}{took:03}000000\n" for number, took in zip(
-            itertools.count(1_700_000_000), milliseconds)))
-        date.write_text(f"#!/bin/sh\nhead -n 1 '{lines}'\nsed -i 1d '{lines}'\n")
-        date.chmod(0o755)
-        yield {**os.environ, "PATH": f"{folder}:{os.environ['PATH']}"}
 
 
 def verifies(text, password):

@@ -352,6 +352,7 @@ def test_the_public_items_are_those_of_the_list(built, cargo, tmp_path):
         **cargo, "CARGO_TARGET_DIR": tmp_path, "RUSTDOCFLAGS": "-D warnings"})
     found = surface_in(tmp_path / "doc/proved_argon2")
     assert "Unverified, variant: Refused TooCostly" in found
+    assert "marked as non-exhaustive" in (tmp_path / "doc/proved_argon2/enum.Error.html").read_text()
     assert "\n".join([*found, ""]) == (CRATE / "surface.txt").read_text()
 
 

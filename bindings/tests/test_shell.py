@@ -23,7 +23,6 @@ from commands import (  # noqa: F401
     STORED,
     TOOL,
     Limits,
-    clock,
     each_command,
     numbers,
     piped,
@@ -32,7 +31,6 @@ from commands import (  # noqa: F401
 from running import MACHINE, VERSION, build_preloaded, needs
 
 SHELL = ROOT / "bindings/shell"
-TUNINGS = [line.split() for line in (ROOT / "bindings/tests/tunings.txt").read_text().splitlines() if line[0] != "#"]
 WORDS = "new", "check", "tune", "hash", "verify", "rehash"
 HASH = ["hash", *SMALL, "somesalt"]
 REHASH = "rehash argon2i 19 3 256 1 32".split()
@@ -248,7 +246,7 @@ def test_the_salt_of_new_is_all_16_bytes_that_the_system_gives(tmp_path, known):
         assert (status, output) == (4, b"") and b"random" in errors
 
 
-# ---- the script alone, over a program and a clock that are known
+# ---- the script alone, over a program that is known
 
 SCRIPT = """
 name=proved-argon2 version= help= program=$1/program
@@ -258,17 +256,14 @@ loads=$1/load
 shift 2
 "$@"
 """
-STILL = "echo 1700000000000000000"
 
 
 @pytest.fixture
 def run_script(tmp_path):
-    """Runs a function of the script with a program, a clock and environment variables."""
-    def run(program, *words, date=None, stdin=b"", **variables):
-        for name, text in (("program", program), ("date", date)):
-            if text is not None:
-                (tmp_path / name).write_text("#!/bin/sh\n" + text)
-                (tmp_path / name).chmod(0o755)
+    """Runs a function of the script with a program and environment variables."""
+    def run(program, *words, stdin=b"", **variables):
+        (tmp_path / "program").write_text("#!/bin/sh\n" + program)
+        (tmp_path / "program").chmod(0o755)
         variables.update({**os.environ, "PATH": f"{tmp_path}:{os.environ['PATH']}", "FOLDER": str(tmp_path)})
         words = ["sh", "-c", SCRIPT, "sh", tmp_path, SHELL / "commands.sh", *words]
         done = subprocess.run(words, input=stdin, env=variables, capture_output=True, timeout=60)
@@ -314,54 +309,42 @@ exit 1
 
 
 @pytest.mark.parametrize("load, is_busy", [("1000.25", True), ("0.00", False)])
-def test_tune_warns_if_the_machine_was_busy(run_script, limits, load, is_busy):
+@pytest.mark.parametrize("measured, expected", [
+    ("echo 10 8192 200", (0, b"argon2id 19 10 8192 1 32 seq\n", b"")),
+    ("exit 1", (1, b"", b"no settings for passwords within 8192 KiB take at most 250 milliseconds here\n"))])
+def test_tune_prints_what_was_measured_and_warns_if_the_machine_was_busy(run_script, load, is_busy, measured, expected):
+    called = '[ "$*" = "tune argon2id 19 1 8192 1 32 seq 250" ] || exit 2'
     words = f"echo {load} 0 0 1/2 3 >\"$FOLDER/load\"; main tune 250 8192"
-    status, output, errors = run_script("cat >/dev/null", "eval", words, date=STILL)
-    assert (status, output) == (0, b"argon2id 19 %d 8192 1 32 seq\n" % limits.time_cost)
-    assert (b"the load is 1000.25 on" in errors, bool(errors)) == (is_busy, is_busy)
-
-
-@pytest.mark.parametrize("row", TUNINGS, ids=" ".join)
-def test_tune_finds_what_the_table_says(run_script, limits, tmp_path, row):
-    """Each hash advances the clock by its cost minus a nanosecond: `tune` rounds up to whole milliseconds."""
-    milliseconds, kib, power, *found = row
-    (tmp_path / "clock").write_text("1700000000000000000")
-    cost = " * ".join(["3000000 * $5", *["$4"] * int(power)])
-    program = f"""cat >/dev/null
-[ $(($4 * $5)) -le {limits.work} ] || exit 5
-echo $(($(cat "$FOLDER/clock") + {cost} / 1024 - 1)) >"$FOLDER/clock"
-"""
-    status, output, errors = run_script(program, "main", "tune", milliseconds, kib, date='cat "$FOLDER/clock"')
-    if found:
-        assert (status, output, errors) == (0, "argon2id 19 {1} {0} 1 32 seq\n".format(*found).encode(), b"")
-    else:
-        said = f"no settings for passwords within {kib} KiB take at most {milliseconds} milliseconds here"
-        assert (status, output) == (1, b"") and said.encode() in errors
+    status, output, errors = run_script(f"{called}\n{measured}", "eval", words)
+    assert (status, output) == expected[:2] and errors.endswith(expected[2])
+    assert (b"the load is 1000.25 on" in errors) == is_busy
 
 
 def test_tune_ends_where_check_takes_no_hash(run_script):
-    status, output, errors = run_script("exit 5", "main", "tune", "10000", "7168", date=STILL)
+    status, output, errors = run_script("exit 5", "main", "tune", "10000", "7168")
     assert (status, output) == (5, b"") and b"check" in errors
 
 
-def test_the_least_passes_are_those_that_owasp_advises(run_script):
-    """The least memory and the least work of the library's OWASP presets are the bounds."""
-    presets = [numbers(f"owasp{number}") for number in range(1, 6)]
-    for found in presets:
-        done = run_script("cat >/dev/null", "main", "tune", "1", str(found.mem_cost), date=STILL)
-        assert done == (0, b"argon2id 19 %d %d 1 32 seq\n" % (found.time_cost, found.mem_cost), b"")
-    text = (SHELL / "commands.sh").read_text()
-    bounds = [int(re.search(rf"^least_{name}=(\d+)$", text, re.M)[1]) for name in ("memory", "work")]
-    assert bounds == [min(found.mem_cost for found in presets), min(it.mem_cost * it.time_cost for it in presets)]
+def test_the_least_memory_is_the_least_that_owasp_advises():
+    least = re.search(r"^least_memory=(\d+)$", (SHELL / "commands.sh").read_text(), re.M)[1]
+    assert int(least) == min(numbers(f"owasp{number}").mem_cost for number in range(1, 6))
 
 
-def test_tune_prints_settings_that_new_takes():
-    # The least of three is 31 milliseconds for 5 passes, 71 for the 9 that then seem to fit, and 56 for 8.
-    with clock(45, 30, 35, 70, 90, 80, 58, 55, 57) as environment:
-        status, output, errors = piped(["tune", "60", "7168"], env=environment)
-    assert (status, output) == (0, b"argon2id 19 8 7168 1 32 seq\n")
-    assert re.fullmatch(rb"(.*: tune: the load is [\d.]+ on \d+ processors: .*\n)?", errors)
-    assert b"$m=7168,t=8,p=1$" in piped(["new", *output.decode().split()], b"password")[1]
+@pytest.mark.parametrize("kib, milliseconds, status", [(7168, 0, 1), (8, 60000, 1), (7, 60000, 2)])
+def test_the_program_in_c_finds_no_settings_that_are_slow_weak_or_invalid(in_c, kib, milliseconds, status):
+    words = ["tune", *f"argon2id 19 1 {kib} 1 32 seq {milliseconds}".split()]
+    assert piped(words, command=[in_c])[:2] == (status, b"")
+
+
+def test_the_program_in_c_measures_nothing_above_the_limits(in_c, limits):
+    words = ["tune", *f"argon2id 19 1 {limits.mem_cost + 1} 1 32 seq 0".split()]
+    assert piped(words, command=[in_c]) == (5, b"", b"")
+
+
+def test_tune_prints_settings_that_new_takes(limits):
+    status, output, errors = piped(["tune", "60000", "7168"])
+    assert (status, output) == (0, b"argon2id 19 %d 7168 1 32 seq\n" % limits.time_cost)
+    assert b"$m=7168,t=%d,p=1$" % limits.time_cost in piped(["new", *output.decode().split()], b"password")[1]
 
 
 # ---- on a terminal
@@ -466,8 +449,7 @@ def test_hash_asks_once_without_echo():
     assert b"assw" not in run.shown.replace(b"Password: ", b"")
 
 
-def test_tune_shows_its_progress_on_a_terminal():
-    with clock(45, 30, 35, 70, 90, 80, 58, 55, 57) as environment:
-        run = Terminal(["tune", "60", "7168"], env=environment)
-    assert run.end == (0, b"argon2id 19 8 7168 1 32 seq\n")
-    assert b"\r" in run.shown and b"measurement 1 of 3" in run.shown and b"56 milliseconds" in run.shown
+def test_tune_shows_its_progress_on_a_terminal(limits):
+    run = Terminal(["tune", "60000", "7168"])
+    assert run.end == (0, b"argon2id 19 %d 7168 1 32 seq\n" % limits.time_cost)
+    assert b"\r" in run.shown and b"measuring a hash with 5 passes" in run.shown and b" milliseconds:" in run.shown
