@@ -84,7 +84,8 @@ pub struct Options {
     // end
 }
 
-/// What the caller provides: a buffer or kept buffers, without which the call allocates memory, and a progress callback.
+/// What the caller provides: a buffer or kept buffers, without which the call allocates memory; and a progress
+/// callback.
 #[derive(Default)]
 pub struct Extras<'call, 'a> {
     pub buffer: Option<&'call mut Buffer>,

@@ -38,15 +38,16 @@ const IDLE: Duration = Duration::from_secs(10);
 /// # Buffers
 ///
 /// The calls of [`Place::run`] compute in buffers that the library keeps, at most one for each place. This saves the
-/// time in which the system maps, clears and unmaps memory. Each call clears its buffer before it returns. A buffer that
-/// nobody has used for ten seconds is freed, by a thread that sleeps meanwhile or, if the system denies this thread, by
-/// a later call. A hash that needs a larger buffer uses memory of its own, and so does one whose buffer is denied.
+/// time in which the system maps, clears and unmaps memory. Each call clears its buffer before it returns. A buffer
+/// that nobody has used for ten seconds is freed, by a thread that sleeps meanwhile or, if the system denies this
+/// thread, by a later call. A hash that needs a larger buffer uses memory of its own, and so does one whose buffer is
+/// denied.
 ///
 /// # Fork
 ///
-/// In a forked child all places of the line are free and no caller waits, whatever the parent was doing. The child never
-/// uses a buffer in which a thread of its parent was computing. As with every lock, do not fork while another thread
-/// enters or leaves the line.
+/// In a forked child all places of the line are free and no caller waits, whatever the parent was doing. The child
+/// never uses a buffer in which a thread of its parent was computing. As with every lock, do not fork while another
+/// thread enters or leaves the line.
 #[derive(Clone, Debug)]
 pub struct Line(Arc<Shared>);
 
@@ -101,16 +102,16 @@ pub struct Enter {
 }
 
 impl Line {
-    /// A line with this many places, at least one, in which this many more callers may wait. Its buffers are as large as
-    /// hashes with [`Config::rfc9106_low_mem`] need.
+    /// A line with this many places, at least one, in which this many more callers may wait. Its buffers are as large
+    /// as hashes with [`Config::rfc9106_low_mem`] need.
     #[must_use]
     pub fn new(places: usize, waiting: usize) -> Line {
         Line::with_buffers(places, waiting, &Config::rfc9106_low_mem())
     }
 
     /// A line for hashes with these settings. It has as many places as `memory` bytes and one processor per lane allow,
-    /// at least one. 16 times as many callers may wait. Its buffers are as large as such hashes need. If the CPU time of
-    /// a container is limited, fewer processors count ([`thread::available_parallelism`]).
+    /// at least one. 16 times as many callers may wait. Its buffers are as large as such hashes need. If the CPU time
+    /// of a container is limited, fewer processors count ([`thread::available_parallelism`]).
     #[must_use]
     pub fn of(config: &Config<'_>, memory: usize) -> Line {
         let processors = thread::available_parallelism().map_or(1, usize::from);
