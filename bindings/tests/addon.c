@@ -20,9 +20,9 @@ struct napi_threadsafe_function__ {
     napi_threadsafe_function_call_js call;
 };
 
-static uint32_t control[3] = {0, 2, 1}, settings[6] = {PROVED_ARGON2_ID, PROVED_ARGON2_VERSION_13, 256, 2, 2, 32};
+static uint32_t control[4] = {0, 2, 1, 1}, settings[6] = {PROVED_ARGON2_ID, PROVED_ARGON2_VERSION_13, 256, 2, 2, 32};
 static uint8_t tag[32];
-static struct napi_value__ inputs[] = {{control, 3, 0}, {"password", 8, 0}, {"somesalt", 8, 0}, {NULL, 0, 0},
+static struct napi_value__ inputs[] = {{control, 4, 0}, {"password", 8, 0}, {"somesalt", 8, 0}, {NULL, 0, 0},
     {NULL, 0, 0}, {settings, 6, 0}, {tag, 32, 0}};
 static struct napi_value__ numbers[64];
 static struct napi_threadsafe_function__ listener;

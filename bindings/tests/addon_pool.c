@@ -1,4 +1,4 @@
-/* The threads and buffers of Node's addon, which is compiled into this program, where threads and memory are denied. In
+/* The threads of Node's addon, which is compiled into this program, where threads are denied, and its kept memory. In
  * place of Node's there is a loop for one thread of JavaScript. It prints each check that fails. */
 #include "../javascript/addon/addon.c"
 #include <stdio.h>
@@ -7,9 +7,11 @@
 
 #pragma GCC diagnostic ignored "-Wunused-parameter"
 
-enum { RUNS = 8, WAIT = 1000, SMALL = 4096, LARGE = 8192, KIB = 1024 };
+enum { RUNS = 8, WAIT = 1000, SMALL = 4096, LARGE = 8192, HUGE = 65536, TOO_LARGE = 131072 };
+enum { KIB = 1024, IDLE_SECONDS = 10 };
 
 static int failed;
+static uint32_t can_stop;
 
 static void expect(bool holds, const char *what)
 {
@@ -21,21 +23,11 @@ static void expect(bool holds, const char *what)
 
 int __real_pthread_create(pthread_t *thread, const pthread_attr_t *attributes, void *(*run)(void *), void *arg);
 int __wrap_pthread_create(pthread_t *thread, const pthread_attr_t *attributes, void *(*run)(void *), void *arg);
-uint32_t __real_proved_argon2_memory_new(const proved_argon2_settings *settings, void **memory, size_t *len);
-uint32_t __wrap_proved_argon2_memory_new(const proved_argon2_settings *settings, void **memory, size_t *len);
 static int most_threads, started;
-static atomic_bool is_memory_denied;
-static atomic_int made;
 
 int __wrap_pthread_create(pthread_t *thread, const pthread_attr_t *attributes, void *(*run)(void *), void *arg)
 {
     return started == most_threads ? EAGAIN : (started++, __real_pthread_create(thread, attributes, run, arg));
-}
-
-uint32_t __wrap_proved_argon2_memory_new(const proved_argon2_settings *settings, void **memory, size_t *len)
-{
-    made++;
-    return is_memory_denied ? PROVED_ARGON2_OUT_OF_MEMORY : __real_proved_argon2_memory_new(settings, memory, len);
 }
 
 /* ---- a thread of JavaScript: what the addon is passed, and what it hears */
@@ -164,8 +156,8 @@ unsigned napi_call_function(
 /* Begins a hash over so many KiB, and returns the code. */
 static double begin_hash(call *self, uint32_t kib)
 {
-    *self = (call){{0, 1, 0}, {PROVED_ARGON2_ID, 0x13, kib, 1, 1, 32}, {0}, NULL, -1, false};
-    const struct napi_value__ passed[] = {{&self->control, 3, 0}, {"password", 8, 0}, {"somesaltsomesalt", 16, 0},
+    *self = (call){{0, 1, 0, can_stop}, {PROVED_ARGON2_ID, 0x13, kib, 1, 1, 32}, {0}, NULL, -1, false};
+    const struct napi_value__ passed[] = {{&self->control, 4, 0}, {"password", 8, 0}, {"somesaltsomesalt", 16, 0},
         {NULL, 0, 0}, {NULL, 0, 0}, {self->settings, 6, 0}, {self->tag, 32, 0}};
     memcpy(values, passed, sizeof passed);
     env.call = self;
@@ -212,19 +204,6 @@ static size_t hash_at_once(size_t count, uint32_t kib)
 
 /* ---- the checks */
 
-/* How many buffers are kept, and whether each has so many KiB, all zero. */
-static bool are_kept(size_t least, size_t most, size_t kib)
-{
-    size_t count = 0, wrong = 0;
-    pthread_mutex_lock(&kept.lock);
-    for (const buffer *each = kept.first; each != NULL; each = each->next, count++) {
-        const uint8_t *const bytes = each->memory;
-        wrong += each->len != kib * KIB || bytes[0] != 0 || memcmp(bytes, bytes + 1, each->len - 1) != 0;
-    }
-    pthread_mutex_unlock(&kept.lock);
-    return least <= count && count <= most && wrong == 0;
-}
-
 static void check_threads(void)
 {
     call lonely, two[2];
@@ -238,30 +217,54 @@ static void check_threads(void)
         "a queued run that is abandoned ends");
 }
 
+/* The code of a run that is stopped as soon as it has begun. */
+static double code_of_stopped(uint32_t has_callback)
+{
+    call stopped;
+    can_stop = has_callback;
+    begin_hash(&stopped, LARGE);
+    atomic_store(&stopped.control.is_stopped, 1);
+    hear_all(&stopped, 1);
+    can_stop = 0;
+    return stopped.code;
+}
+
+static void check_callbacks(void)
+{
+    expect(code_of_stopped(1) == PROVED_ARGON2_STOPPED, "a run that something can stop is stopped");
+    expect(code_of_stopped(0) == PROVED_ARGON2_OK, "a run that nothing can stop has no callback");
+}
+
+/* How many kibibytes of memory this process has. */
+static long resident(void)
+{
+    long pages = 0;
+    FILE *const opened = fopen("/proc/self/statm", "r");
+    const int found = opened == NULL ? 0 : fscanf(opened, "%*s %ld", &pages);
+    if (opened != NULL) fclose(opened);
+    return found == 1 ? pages * (sysconf(_SC_PAGESIZE) / KIB) : 0;
+}
+
 static void check_buffers(void)
 {
-    made = 0;
-    expect(hash_at_once(3, LARGE) == 3 && are_kept(1, 1, LARGE) && made == 0, "one thread has one buffer for all");
     most_threads = 4;
-    expect(hash_at_once(4, LARGE) == 4 && are_kept(1, 4, LARGE), "four at the same time have four at most");
-    expect(hash_at_once(1, SMALL) == 1 && are_kept(1, 4, LARGE), "a small run uses a kept buffer");
-    for (const time_t end = seconds_now() + 2 * KEPT_SECONDS + 2; seconds_now() < end;) {
-        hash_at_once(1, SMALL);
-    }
-    expect(are_kept(1, 4, SMALL), "but runs that need no more than half of it do not keep it");
-    sleep(2 * KEPT_SECONDS + 2);
-    expect(are_kept(0, 0, 0), "an unused buffer is freed");
-    expect(hash_at_once(1, SMALL) == 1 && hash_at_once(1, LARGE) == 1, "a larger run gets a new buffer");
-    expect(are_kept(1, 1, LARGE), "which replaces the smaller one");
-    sleep(2 * KEPT_SECONDS + 2);
-    is_memory_denied = true;
-    expect(hash_at_once(4, LARGE) == 4 && are_kept(0, 0, 0), "without a buffer a call takes its own memory");
+    expect(hash_at_once(4, LARGE) == 4 && hash_at_once(4, SMALL) == 4, "four threads compute");
+    const long before = resident();
+    expect(hash_at_once(1, HUGE) == 1 && resident() > before + HUGE / 2, "the memory of a run is kept");
+    sleep(IDLE_SECONDS + 2);
+    expect(resident() < before + HUGE / 2, "idle memory is freed although no run comes");
+    expect(hash_at_once(1, TOO_LARGE) == 1 && resident() < before + TOO_LARGE / 2, "that of a larger run is not kept");
+    proved_argon2_buffers *const all = kept;
+    kept = NULL;
+    expect(hash_at_once(4, LARGE) == 4, "without kept memory each run allocates its own");
+    kept = all;
 }
 
 int main(void)
 {
     make_pool();
     check_threads();
+    check_callbacks();
     check_buffers();
     return failed != 0;
 }

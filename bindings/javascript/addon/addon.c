@@ -3,14 +3,19 @@
  * The addon is tested and not proved. */
 #define _GNU_SOURCE
 #include "node_api.h"
-#include "buffers.h"
 #include <errno.h>
+#include <proved_argon2.h>
+#include <pthread.h>
 #include <signal.h>
 #include <stdatomic.h>
+#include <stdlib.h>
+#include <time.h>
+#include <unistd.h>
 
 #define MOST_PARTS 8
 #define MOST_IDLE 8
 #define STACK ((size_t)1 << 20)
+#define KEPT_KIB 65536 /* the largest hash whose memory is kept */
 
 /* A typed array: where its elements are, and how many. */
 typedef struct part {
@@ -23,13 +28,13 @@ typedef struct control {
     _Atomic uint32_t is_stopped;
     uint32_t threads;
     uint32_t is_reported;
+    uint32_t can_stop;
 } control;
 
-/* A kind of run: how many arrays it is passed, the function that computes, and the function that finds the settings. */
+/* A kind of run: how many arrays it is passed, and the function that computes, which may add to the options. */
 typedef struct kind {
     size_t parts;
-    uint32_t (*compute)(const proved_argon2_options *with, const part *parts);
-    proved_argon2_settings (*settings)(const part *parts);
+    uint32_t (*compute)(proved_argon2_options *with, const part *parts);
 } kind;
 
 typedef struct run {
@@ -53,6 +58,9 @@ static struct {
     size_t threads;    /* all threads */
     size_t idle;       /* those that wait for a run */
 } pool = {.lock = PTHREAD_MUTEX_INITIALIZER, .is_over = PTHREAD_COND_INITIALIZER, .end = &pool.first};
+
+/* The memory that runs use one after another, or null: then each allocates its own. */
+static proved_argon2_buffers *kept;
 
 /* Reads this many arguments, which are arrays, and returns the argument after them. */
 static napi_value take(napi_env env, napi_callback_info info, part *parts, size_t count)
@@ -84,15 +92,6 @@ static napi_value check(napi_env env, napi_callback_info info)
     return number(env, proved_argon2_check(of[0].at, lengths[0], lengths[1], lengths[2], lengths[3]));
 }
 
-static napi_value check_encoded(napi_env env, napi_callback_info info)
-{
-    part of[4];
-    take(env, info, of, 4);
-    const uint64_t *const lengths = of[2].at;
-    return number(
-        env, proved_argon2_check_encoded(of[0].at, of[0].len, of[1].at, lengths[0], lengths[1], lengths[2], of[3].at));
-}
-
 static napi_value needs_rehash(napi_env env, napi_callback_info info)
 {
     part of[2];
@@ -116,33 +115,28 @@ static napi_value encode(napi_env env, napi_callback_info info)
 
 /* ---- runs */
 
-static uint32_t compute_hash(const proved_argon2_options *with, const part *of)
+static uint32_t compute_hash(proved_argon2_options *with, const part *of)
 {
     return proved_argon2_hash_raw_with(with, of[1].at, of[1].len, of[2].at, of[2].len, of[3].at, of[3].len, of[4].at,
         of[4].len, of[5].at, of[6].at, of[6].len);
 }
 
-static uint32_t compute_verdict(const proved_argon2_options *with, const part *of)
+static uint32_t compute_verdict(proved_argon2_options *with, const part *of)
 {
+    with->limits = of[5].at;
+    with->new_settings = of[6].len == 0 ? NULL : of[6].at;
     return proved_argon2_verify_encoded_with(
         with, of[2].at, of[2].len, of[1].at, of[1].len, of[3].at, of[3].len, of[4].at, of[4].len);
 }
 
-static proved_argon2_settings settings_of_hash(const part *of)
+static uint32_t compute_unknown(proved_argon2_options *with, const part *of)
 {
-    return *(const proved_argon2_settings *)of[5].at;
+    return proved_argon2_password_verify_unknown(with, of[3].at, of[1].at, of[1].len, of[2].at, of[2].len);
 }
 
-/* The settings of the string that is verified. Those of a string that cannot be read are not valid. */
-static proved_argon2_settings settings_of_string(const part *of)
-{
-    proved_argon2_stored stored = {0};
-    const uint32_t code = proved_argon2_read(of[2].at, of[2].len, &stored);
-    return code == PROVED_ARGON2_OK ? stored.settings : (proved_argon2_settings){0};
-}
-
-static const kind hashing = {7, compute_hash, settings_of_hash};
-static const kind verifying = {5, compute_verdict, settings_of_string};
+static const kind hashing = {7, compute_hash};
+static const kind verifying = {7, compute_verdict};
+static const kind verifying_unknown = {4, compute_unknown};
 
 /* Reports the progress, and says whether to stop. */
 static int report_progress(void *arg, uint64_t done, uint64_t all)
@@ -163,40 +157,37 @@ static void report_end(run *self)
     napi_release_threadsafe_function(self->listener, RELEASE);
 }
 
-/* Computes a run in a kept buffer. Without one the call allocates the memory itself, or returns that it cannot. The
- * buffer is kept before JavaScript hears of the end, so that the next run can use it. */
+/* Computes a run in kept memory. It has a callback only if something can stop it: without one, a hash of one lane is
+ * one proved call. */
 static void compute(run *self)
 {
-    const proved_argon2_settings settings = self->kind->settings(self->parts);
-    buffer *const own = take_buffer(&settings);
+    const control *const shared = self->parts[0].at;
     proved_argon2_options with = PROVED_ARGON2_OPTIONS;
-    with.threads = ((control *)self->parts[0].at)->threads;
-    with.memory = own == NULL ? NULL : own->memory;
-    with.memory_len = own == NULL ? 0 : own->len;
-    with.progress = report_progress;
+    with.threads = shared->threads;
+    with.buffers = kept;
+    with.progress = shared->can_stop ? report_progress : NULL;
     with.arg = self;
     self->code = self->kind->compute(&with, self->parts);
-    keep_buffer(own, &settings);
     report_end(self);
 }
 
-/* Waits for a run. Frees the kept buffers that have been unused for too long meanwhile. The pool is locked. */
+/* Waits for a run. Frees the kept memory that has been idle for too long meanwhile. The pool is locked. */
 static void wait_for_run(void)
 {
-    const struct timespec end = {.tv_sec = next_end_of_buffer()};
-    int error = 0;
+    pthread_mutex_unlock(&pool.lock);
+    const uint32_t milliseconds = proved_argon2_buffers_free_idle(kept);
+    struct timespec end;
+    clock_gettime(CLOCK_MONOTONIC, &end);
+    end.tv_sec += milliseconds / 1000 + 1;
+    pthread_mutex_lock(&pool.lock);
+    if (pool.first != NULL) return;
     pool.idle++;
-    if (end.tv_sec == 0) {
-        error = pthread_cond_wait(&pool.has_run, &pool.lock);
+    if (milliseconds == 0) {
+        pthread_cond_wait(&pool.has_run, &pool.lock);
     } else {
-        error = pthread_cond_timedwait(&pool.has_run, &pool.lock, &end);
+        pthread_cond_timedwait(&pool.has_run, &pool.lock, &end);
     }
     pool.idle--;
-    if (error == ETIMEDOUT) {
-        pthread_mutex_unlock(&pool.lock);
-        free_unused_buffers();
-        pthread_mutex_lock(&pool.lock);
-    }
 }
 
 /* Takes a queued run out of the queue. The pool is locked. */
@@ -238,7 +229,7 @@ static void *compute_all(void *arg)
         pthread_cond_broadcast(&pool.is_over);
     }
     pool.threads--;
-    pthread_cond_signal(&pool.has_run); /* (wakes a waiting thread, which will free the buffer kept here) */
+    pthread_cond_signal(&pool.has_run); /* (wakes a waiting thread, which will free the memory kept here) */
     pthread_mutex_unlock(&pool.lock);
     return arg;
 }
@@ -359,9 +350,19 @@ static napi_value verify(napi_env env, napi_callback_info info)
     return begin(env, info, &verifying);
 }
 
-/* Idle threads wait by the monotonic clock, which nobody sets. */
+static napi_value verify_unknown(napi_env env, napi_callback_info info)
+{
+    return begin(env, info, &verifying_unknown);
+}
+
+/* Idle threads wait by the monotonic clock, which nobody sets. Without memory for the handle, none is kept. */
 static void make_pool(void)
 {
+    const proved_argon2_settings largest = {PROVED_ARGON2_ID, PROVED_ARGON2_VERSION_13, KEPT_KIB, 1, 1, 32};
+    const long processors = sysconf(_SC_NPROCESSORS_ONLN);
+    if (proved_argon2_buffers_new(&largest, processors < 1 ? 1 : (uint32_t)processors, &kept) != PROVED_ARGON2_OK) {
+        kept = NULL;
+    }
     pthread_condattr_t monotonic;
     pthread_condattr_init(&monotonic);
     pthread_condattr_setclock(&monotonic, CLOCK_MONOTONIC);
@@ -375,8 +376,8 @@ napi_value napi_register_module_v1(napi_env env, napi_value exports)
     static const struct {
         const char *name;
         napi_callback call;
-    } calls[] = {{"check", check}, {"checkEncoded", check_encoded}, {"needsRehash", needs_rehash},
-        {"encodedLength", encoded_len}, {"encode", encode}, {"hash", hash}, {"verify", verify}};
+    } calls[] = {{"check", check}, {"needsRehash", needs_rehash}, {"encodedLength", encoded_len}, {"encode", encode},
+        {"hash", hash}, {"verify", verify}, {"verifyUnknown", verify_unknown}};
     static pthread_once_t once = PTHREAD_ONCE_INIT;
     pthread_once(&once, make_pool);
     for (size_t i = 0; i < sizeof calls / sizeof *calls; i++) {

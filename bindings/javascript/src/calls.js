@@ -1,12 +1,14 @@
 // The calls that hash and verify.
 import { allocate, copyOf } from './bytes.js';
-import { MISMATCH, OK, Rejected, check, errorOf } from './codes.js';
+import { MISMATCH, NEEDS_REHASH, Rejected, check, errorOf } from './codes.js';
 import { Encoder } from './encoder.js';
 import { Argon2Error } from './errors.js';
 import { Line, Progress } from './line.js';
 import { openCalls, runInPlace } from './module.js';
 import { addonFor, runByThreads } from './native.js';
-import { encodedOf, inputsOf, isRaw, limitsOf, optionOf, optionsOf, runningOf, settingsOf } from './options.js';
+import {
+    encodedOf, inputsOf, isRaw, limitsOf, optionOf, optionsOf, runningOf, SALT_LENGTH, settingsOf,
+} from './options.js';
 import { canStartWorkers } from './platform.js';
 import { runByWorkers } from './pool.js';
 import { lanesOf } from './run.js';
@@ -19,13 +21,14 @@ const MAX_THREADS_OF_STRING = 16;
 /** How a call runs: its options, with the addon if it uses that, and with its progress. */
 function waysOf(own) {
     const { native, onProgress, signal, ...running } = runningOf(own);
-    return { ...running, addon: addonFor(native), progress: new Progress(onProgress, signal) };
+    const addon = addonFor(native);
+    return { ...running, addon: running.worker ? addon : undefined, progress: new Progress(onProgress, signal) };
 }
 
 /** Computes a task by the addon, by workers, or in this thread. */
 function runBy(task, { addon, worker, threads, progress }) {
     const most = Math.min(threads, lanesOf(task.settings));
-    if (worker && addon) {
+    if (addon) {
         return runByThreads(addon, task, most, progress);
     }
     return worker && canStartWorkers() ? runByWorkers(task, most, progress) : runInPlace(task, progress);
@@ -104,36 +107,50 @@ function verifyingWaysOf(own) {
 
 /** Verifies a password against a PHC string. If that cannot be decided, it rejects. */
 export async function verify(encoded, password, options = {}) {
+    const { matches } = await verifyFor(encoded, password, options);
+    return matches;
+}
+
+/** Does the same, and also returns whether the string has other settings than the new ones, if there are any. */
+async function verifyFor(encoded, password, options, newSettings) {
     const own = optionsOf(options);
     const { bytes, data } = encodedOf(encoded);
     const ways = verifyingWaysOf(own);
     const inputs = inputsOf(password, { __proto__: null, associatedData: data, ...own, salt: allocate(0) });
-    return verifyBytes(ways, inputs, () => bytes);
+    return callWith(ways, inputs, async (encoder) => {
+        const { limits, addon } = ways;
+        const decoded = addon ? { settings: settingsNamedIn(encoded) } : encoder.decode(bytes, limits, inputs);
+        const { code } = await compute({ encoded: bytes, inputs, limits, newSettings, ...decoded }, ways);
+        if (code !== MISMATCH && code !== NEEDS_REHASH) {
+            check(code);
+        }
+        const hasOthers = newSettings?.some((number, i) => number !== decoded.settings[i]);
+        return { matches: code !== MISMATCH, isDue: addon ? code === NEEDS_REHASH : hasOthers };
+    });
 }
 
-/**
- * Verifies a password for a user who does not exist, against a PHC string of these settings that no password matches.
- * It takes as long as a real verification, and gives false.
- */
+/** Settings with the lanes of a PHC string, for which threads are needed. The addon decodes the string itself. */
+function settingsNamedIn(encoded) {
+    const [, lanes = 1] = encoded.match(/,p=(\d{1,8})/) ?? [];
+    return settingsOf({ parallelism: Math.max(1, Number(lanes)) });
+}
+
+/** Takes as long as verifying a PHC string of these settings, for a user who does not exist, and gives false. */
 export async function verifyUnknown(password, options = {}) {
     const own = optionsOf(options);
     const settings = settingsOf(own);
     const ways = verifyingWaysOf(own);
-    const inputs = inputsOf(password, { __proto__: null, ...own, salt: allocate(0) });
-    await verifyBytes(ways, inputs, (encoder) => encoder.encodeUnknown(settings, inputs));
-    return false;
-}
-
-/** Verifies a password against the bytes of a PHC string, which `bytesBy` returns. */
-function verifyBytes(ways, inputs, bytesBy) {
+    // (As in C, the salt is fixed: nobody learns the tag.)
+    const inputs = inputsOf(password, { __proto__: null, ...own, salt: allocate(SALT_LENGTH) });
     return callWith(ways, inputs, async (encoder) => {
-        const bytes = bytesBy(encoder);
-        const task = { ...encoder.decode(bytes, ways.limits, inputs), encoded: bytes, inputs };
-        const { code } = await compute(task, ways);
+        encoder.checkSettings(settings, inputs);
+        const task = { settings, saltLength: 0, encoded: undefined, inputs, isUnknown: true };
+        const { code, tag } = await compute(task, ways);
+        tag?.fill(0);
         if (code !== MISMATCH) {
             check(code);
         }
-        return code === OK;
+        return false;
     });
 }
 
@@ -157,28 +174,28 @@ export async function verifyAndUpdate(encoded, password, options = {}) {
 /** Does the same. If a new secret is passed, a match is always hashed anew, with that secret. */
 export async function verifyAndRenew(encoded, password, options, newSecret) {
     const all = optionsOf(options);
-    settingsOf(all); // rejects invalid settings whatever the password is
+    const settings = settingsOf(all); // (rejects invalid settings whatever the password is)
     const limits = all.limits && limitsOf(all);
     const inputs = inputsOf(password, { __proto__: null, ...all, salt: allocate(0) });
     const associatedData = all.associatedData && inputs.associatedData;
     const copied = { limits, secret: inputs.secret, associatedData };
     const own = { __proto__: null, ...all, ...copied, line: undefined, salt: undefined, raw: undefined };
     return callInLine(all.line, all, inputs, async () => {
-        const matches = await verify(encoded, inputs.password, own);
-        return { matches, update: matches ? await renewed(encoded, inputs.password, own, newSecret) : null };
+        const { matches, isDue } = await verifyFor(encoded, inputs.password, own, settings);
+        const isRenewed = matches && (isDue || newSecret !== undefined);
+        return { matches, update: isRenewed ? await renewed(inputs.password, own, newSecret) : null };
     });
 }
 
-/** The PHC string to store in place of the old one, or null if the old one stays, also because memory is denied. */
-async function renewed(encoded, password, options, newSecret) {
+/** The PHC string to store in place of the old one, or null if the old one stays because the new one fails. */
+async function renewed(password, options, newSecret) {
     const progress = new Progress(options.onProgress, options.signal);
     const onProgress = options.onProgress && ((done, all) => {
         progress.report(done, all);
         progress.throwIfStopped();
     });
     try {
-        const isDue = newSecret !== undefined || await needsRehash(encoded, options);
-        return isDue ? await hash(password, { ...options, onProgress, secret: newSecret ?? options.secret }) : null;
+        return await hash(password, { ...options, onProgress, secret: newSecret ?? options.secret });
     } catch (error) {
         progress.throwIfStopped(); // whatever class the callback's error or the signal's reason has
         if (error instanceof Argon2Error || error instanceof RangeError) {

@@ -1,11 +1,11 @@
 // Calls that need neither a password nor memory for blocks: they check settings, and decode and encode strings. Their
-// errors come before a worker starts. The addon and the module have the same calls, with the same arrays.
+// errors come before a worker starts. The addon and the module have the same calls, with the same arrays, but the addon
+// does not decode: it verifies in one call.
 import { NEEDS_REHASH, check } from './codes.js';
-import { SALT_LENGTH } from './options.js';
-import { SETTINGS, hashLengthOf } from './run.js';
+import { SETTINGS } from './run.js';
 
 /** Limits as C lays them out, where the work has 64 bits. */
-const limitsAsNumbers = ({ memoryCost, timeCost, parallelism, work }) => Uint32Array.of(
+export const limitsAsNumbers = ({ memoryCost, timeCost, parallelism, work }) => Uint32Array.of(
     memoryCost, timeCost, parallelism, 0, Number(BigInt.asUintN(32, BigInt(work))), Number(BigInt(work) >> 32n));
 
 const lengthsOf = (...inputs) => BigUint64Array.from(inputs, ({ length }) => BigInt(length));
@@ -36,13 +36,6 @@ export class Encoder {
         const text = new Uint8Array(this.#calls.encodedLength(salt, numbers) + 1);
         check(this.#calls.encode(salt, numbers, tag, text));
         return new TextDecoder().decode(text).slice(0, -1);
-    }
-
-    /** The bytes of a PHC string of these settings whose tag is zero, so that no password matches. */
-    encodeUnknown(settings, inputs) {
-        const salt = new Uint8Array(SALT_LENGTH);
-        this.checkSettings(settings, { ...inputs, salt });
-        return new TextEncoder().encode(this.encode(salt, settings, new Uint8Array(hashLengthOf(settings))));
     }
 
     /** Whether a PHC string has other settings than these. */

@@ -154,7 +154,8 @@ export function verifyAndUpdate(encoded: string, password: string | Bytes, optio
 
 /**
  * Verifies a password for a user who does not exist. It takes as long as `verify` with a PHC string of these settings,
- * and always gives `false`. Without it an attacker can measure which users exist. It rejects as `verify` does.
+ * and always gives `false`. Without it an attacker can measure which users exist. It rejects as `hash` does. The limits
+ * have no effect.
  */
 export function verifyUnknown(password: string | Bytes, options?: UpdateOptions): Promise<false>;
 

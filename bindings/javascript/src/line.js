@@ -51,6 +51,11 @@ export class Progress {
         return this.#onProgress !== undefined;
     }
 
+    /** Whether anything can stop the call. */
+    get canStop() {
+        return this.isReported || this.signal !== undefined;
+    }
+
     get isStopped() {
         return this.#thrown !== undefined || this.signal?.aborted === true;
     }
@@ -86,10 +91,10 @@ export class Progress {
 /** A number of places. A call takes free ones at once, or waits its turn until others leave theirs. */
 export class Places {
     #taken = 0;
-    /** The calls that wait, by numbers in their order: an array would be moved for each call that leaves it. */
-    #waiting = new Map();
-    #first = 0;
-    #next = 0;
+    /** What starts the calls that wait, in their order: an array would be moved for each call that leaves it. */
+    #waiting = new Set();
+    /** An iterator of these, which is kept, since another one would pass all calls that have left. */
+    #order = this.#waiting.values();
     #all;
 
     /** `all` returns how many places there are, which may change. */
@@ -113,11 +118,9 @@ export class Places {
     wait(progress) {
         let forget;
         const turn = new Promise((resolve, reject) => {
-            const number = this.#next;
-            this.#next += 1;
-            this.#waiting.set(number, resolve);
+            this.#waiting.add(resolve);
             forget = progress.whenAborted(() => {
-                this.#waiting.delete(number);
+                this.#waiting.delete(resolve);
                 reject(new Rejected(STOPPED));
             });
         });
@@ -136,14 +139,15 @@ export class Places {
         }
     }
 
-    /** Takes the first of the calls that wait out of the queue. Numbers of aborted calls are missing. */
+    /** Takes the first of the calls that wait out of the queue. (An iterator that has come to the end stays there.) */
     #takeFirst() {
-        while (!this.#waiting.has(this.#first)) {
-            this.#first += 1;
+        let next = this.#order.next();
+        if (next.done) {
+            this.#order = this.#waiting.values();
+            next = this.#order.next();
         }
-        const resolve = this.#waiting.get(this.#first);
-        this.#waiting.delete(this.#first);
-        return resolve;
+        this.#waiting.delete(next.value);
+        return next.value;
     }
 }
 

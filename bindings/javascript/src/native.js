@@ -2,6 +2,7 @@
 import { addonFile } from './assets.js';
 import { allocate } from './bytes.js';
 import { check, deniedOr, OK, Rejected, STOPPED } from './codes.js';
+import { limitsAsNumbers } from './encoder.js';
 import { Unsupported } from './errors.js';
 import { Places } from './line.js';
 import { nodeThreads, processors } from './platform.js';
@@ -54,14 +55,19 @@ function allocateTag(length) {
     }
 }
 
-/** The arrays that the addon is passed: the control, which it reads while it computes, the inputs, and the tag. */
-function partsOf({ settings, encoded, inputs }, control) {
+/** A call of the addon, the arrays that it is passed behind the control, and one of these: the tag of a hash. */
+function callOf(addon, { encoded, inputs, isUnknown, limits, newSettings, settings }) {
     const { password, salt, secret, associatedData } = inputs;
     if (encoded !== undefined) {
-        return [control, password, encoded, secret, associatedData];
+        const numbers = [limitsAsNumbers(limits), Uint32Array.from(newSettings ?? [])];
+        return { begin: addon.verify, parts: [password, encoded, secret, associatedData, ...numbers] };
+    }
+    const numbers = Uint32Array.from(settings);
+    if (isUnknown) {
+        return { begin: addon.verifyUnknown, parts: [password, secret, numbers] };
     }
     const tag = allocateTag(hashLengthOf(settings));
-    return [control, password, salt, secret, associatedData, Uint32Array.from(settings), tag];
+    return { begin: addon.hash, parts: [password, salt, secret, associatedData, numbers, tag], tag };
 }
 
 /** Waits for the end of a run, and returns its code. */
@@ -95,9 +101,9 @@ export async function runByThreads(addon, task, most, progress) {
         if (progress.isStopped) {
             throw new Rejected(STOPPED);
         }
-        const parts = partsOf(task, Int32Array.of(0, threads, progress.isReported ? 1 : 0));
-        const code = await codeOf(task.encoded === undefined ? addon.hash : addon.verify, parts, progress);
-        return { code, tag: parts.at(-1) };
+        const { begin, parts, tag } = callOf(addon, task);
+        const control = Int32Array.of(0, threads, Number(progress.isReported), Number(progress.canStop));
+        return { code: await codeOf(begin, [control, ...parts], progress), tag };
     } finally {
         computing.leave(threads);
     }
