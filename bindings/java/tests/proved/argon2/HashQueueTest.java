@@ -217,12 +217,25 @@ class HashQueueTest {
         CompletableFuture<Integer> future = queue.submit(password::hashCode);
         password = null;
         end.accept(future);
+        assertForgotten(reference);
+        assertTrue(future.isDone());
+    }
+
+    private static void assertForgotten(WeakReference<byte[]> reference) throws InterruptedException {
         for (int round = 0; round < 50 && reference.get() != null; round++) {
             TimeUnit.MILLISECONDS.sleep(2);
             System.gc();
         }
         assertNull(reference.get());
-        assertTrue(future.isDone());
+    }
+
+    /** It may be a key. */
+    @Test
+    void anIdleThreadKeepsNoResult() throws InterruptedException {
+        try (HashQueue other = new HashQueue(1, 0, Duration.ofMinutes(5))) {
+            assertForgotten(new WeakReference<>(other.run(() -> new byte[8])));
+            assertEquals(1, threads());
+        }
     }
 
     @Test
@@ -294,6 +307,20 @@ class HashQueueTest {
         soon(hasBegun);
         queue.close();
         soon(caller);
+    }
+
+    /** Each call is added at about the time at which the idle thread ends. */
+    @Test
+    void noCallIsLostWhenAThreadEnds() {
+        try (HashQueue hasty = new HashQueue(1, 0, Duration.ZERO)) {
+            for (int call = 0; call < 5000; call++) {
+                CompletableFuture<String> future = hasty.submit(() -> "");
+                for (long end = System.nanoTime() + 20_000_000_000L; !future.isDone();) {
+                    assertTrue(System.nanoTime() < end, "call " + call + " is lost");
+                }
+                assertEquals("", future.join());
+            }
+        }
     }
 
     /** (neither before ten seconds are over, nor in a queue that is closed) */
