@@ -134,9 +134,16 @@ static uint32_t compute_unknown(proved_argon2_options *with, const part *of)
     return proved_argon2_password_verify_unknown(with, of[3].at, of[1].at, of[1].len, of[2].at, of[2].len);
 }
 
+/* (A search is passed the settings with the most memory, and the time in nanoseconds, and writes what it finds.) */
+static uint32_t compute_tuning(proved_argon2_options *with, const part *of)
+{
+    return proved_argon2_tune(with, of[1].at, *(const uint64_t *)of[2].at, of[3].at);
+}
+
 static const kind hashing = {7, compute_hash};
 static const kind verifying = {7, compute_verdict};
 static const kind verifying_unknown = {4, compute_unknown};
+static const kind searching = {4, compute_tuning};
 
 /* Reports the progress, and says whether to stop. */
 static int report_progress(void *arg, uint64_t done, uint64_t all)
@@ -355,6 +362,11 @@ static napi_value verify_unknown(napi_env env, napi_callback_info info)
     return begin(env, info, &verifying_unknown);
 }
 
+static napi_value tune(napi_env env, napi_callback_info info)
+{
+    return begin(env, info, &searching);
+}
+
 /* Idle threads wait by the monotonic clock, which nobody sets. Without memory for the handle, none is kept. */
 static void make_pool(void)
 {
@@ -377,7 +389,7 @@ napi_value napi_register_module_v1(napi_env env, napi_value exports)
         const char *name;
         napi_callback call;
     } calls[] = {{"check", check}, {"needsRehash", needs_rehash}, {"encodedLength", encoded_len}, {"encode", encode},
-        {"hash", hash}, {"verify", verify}, {"verifyUnknown", verify_unknown}};
+        {"hash", hash}, {"verify", verify}, {"verifyUnknown", verify_unknown}, {"tune", tune}};
     static pthread_once_t once = PTHREAD_ONCE_INIT;
     pthread_once(&once, make_pool);
     for (size_t i = 0; i < sizeof calls / sizeof *calls; i++) {

@@ -1,6 +1,6 @@
 // The calls that hash and verify.
-import { allocate, copyOf } from './bytes.js';
-import { MISMATCH, NEEDS_REHASH, Rejected, check, errorOf } from './codes.js';
+import { allocate, copyOf, Inputs } from './bytes.js';
+import { MISMATCH, NEEDS_REHASH, Rejected, TOO_COSTLY, check, errorOf } from './codes.js';
 import { Encoder } from './encoder.js';
 import { Argon2Error } from './errors.js';
 import { Line, Progress } from './line.js';
@@ -18,12 +18,19 @@ import { lanesOf } from './run.js';
 const MAX_THREADS_OF_STRING = 16;
 // end
 
+/** The size of proved_argon2_tuning: three pairs of settings, and the nanoseconds. */
+const NUMBERS_OF_TUNING = 4;
+const NANOSECONDS = 10 ** 6; // of a millisecond
+
 /** How a call runs: its options, with the addon if it uses that, and with its progress. */
 function waysOf(own) {
     const { native, onProgress, signal, ...running } = runningOf(own);
     const addon = addonFor(native);
     return { ...running, addon: running.worker ? addon : undefined, progress: new Progress(onProgress, signal) };
 }
+
+/** A task with these properties alone: it inherits none. */
+const taskOf = (properties) => ({ __proto__: null, ...properties });
 
 /** Computes a task by the addon, by workers, or in this thread. */
 function runBy(task, { addon, worker, threads, progress }) {
@@ -83,7 +90,7 @@ export async function hash(password, options = {}) {
     const salt = copyOf(inputs.salt);
     return callWith(ways, inputs, async (encoder) => {
         encoder.checkSettings(settings, inputs);
-        const { code, tag } = await compute({ settings, saltLength: 0, encoded: undefined, inputs }, ways);
+        const { code, tag } = await compute(taskOf({ settings, saltLength: 0, inputs }), ways);
         check(code);
         return raw ? tag : encodeAndClear(encoder, salt, settings, tag);
     });
@@ -120,7 +127,7 @@ async function verifyFor(encoded, password, options, newSettings) {
     return callWith(ways, inputs, async (encoder) => {
         const { limits, addon } = ways;
         const decoded = addon ? { settings: settingsNamedIn(encoded) } : encoder.decode(bytes, limits, inputs);
-        const { code } = await compute({ encoded: bytes, inputs, limits, newSettings, ...decoded }, ways);
+        const { code } = await compute(taskOf({ encoded: bytes, inputs, limits, newSettings, ...decoded }), ways);
         if (code !== MISMATCH && code !== NEEDS_REHASH) {
             check(code);
         }
@@ -144,13 +151,36 @@ export async function verifyUnknown(password, options = {}) {
     const inputs = inputsOf(password, { __proto__: null, ...own, salt: allocate(SALT_LENGTH) });
     return callWith(ways, inputs, async (encoder) => {
         encoder.checkSettings(settings, inputs);
-        const task = { settings, saltLength: 0, encoded: undefined, inputs, isUnknown: true };
-        const { code, tag } = await compute(task, ways);
+        const { code, tag } = await compute(taskOf({ settings, saltLength: 0, inputs, isUnknown: true }), ways);
         tag?.fill(0);
         if (code !== MISMATCH) {
             check(code);
         }
         return false;
+    });
+}
+
+/**
+ * Has the addon search for settings whose hash takes at most this time. Returns their memory and passes, and the
+ * milliseconds of a hash; null if none is fast enough; or undefined if the addon does not compute.
+ */
+export async function searchByAddon(options, milliseconds) {
+    const own = optionsOf(options);
+    const settings = settingsOf(own);
+    const ways = waysOf(own);
+    if (ways.addon === undefined) {
+        return undefined;
+    }
+    const found = new BigUint64Array(NUMBERS_OF_TUNING);
+    return callWith(ways, undefined, async () => {
+        const nanoseconds = BigInt(Math.floor(milliseconds * NANOSECONDS));
+        const { code } = await compute(taskOf({ settings, nanoseconds, found, inputs: new Inputs({}) }), ways);
+        if (code === TOO_COSTLY) {
+            return null;
+        }
+        check(code);
+        const [, , memory, passes] = new Uint32Array(found.buffer);
+        return { memory, passes, took: Number(found.at(-1)) / NANOSECONDS };
     });
 }
 

@@ -6,6 +6,7 @@ export const OUT_OF_MEMORY = 20;
 export const WORKER_REFUSED = 21;
 export const MISMATCH = 64;
 export const NEEDS_REHASH = 68;
+export const TOO_COSTLY = 69;
 export const STOPPED = 130;
 
 // A string has a character outside of ASCII, so it is no encoded hash.

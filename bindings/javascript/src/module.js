@@ -64,7 +64,7 @@ function callOver(memory, name, ...values) {
     }
 }
 
-/** The same quick calls as those of the addon, computed by the module. */
+/** The quick calls, computed by the module. The addon has the same, except for the one that decodes. */
 export async function openCalls() {
     const memory = await opened.get();
     const call = (...values) => callOver(memory, ...values);

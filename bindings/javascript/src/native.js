@@ -56,13 +56,16 @@ function allocateTag(length) {
 }
 
 /** A call of the addon, the arrays that it is passed behind the control, and one of these: the tag of a hash. */
-function callOf(addon, { encoded, inputs, isUnknown, limits, newSettings, settings }) {
+function callOf(addon, { encoded, found, inputs, isUnknown, limits, nanoseconds, newSettings, settings }) {
     const { password, salt, secret, associatedData } = inputs;
     if (encoded !== undefined) {
         const numbers = [limitsAsNumbers(limits), Uint32Array.from(newSettings ?? [])];
         return { begin: addon.verify, parts: [password, encoded, secret, associatedData, ...numbers] };
     }
     const numbers = Uint32Array.from(settings);
+    if (found !== undefined) {
+        return { begin: addon.tune, parts: [numbers, BigUint64Array.of(nanoseconds), found] };
+    }
     if (isUnknown) {
         return { begin: addon.verifyUnknown, parts: [password, secret, numbers] };
     }

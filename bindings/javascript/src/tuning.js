@@ -1,6 +1,6 @@
 // Finds settings for this machine by measuring hashes.
 import { allocate } from './bytes.js';
-import { callInLine, hash } from './calls.js';
+import { callInLine, hash, searchByAddon } from './calls.js';
 import { DEFAULTS, defaultLimits } from './options.js';
 import { loadOfSystem } from './platform.js';
 
@@ -8,22 +8,34 @@ import { loadOfSystem } from './platform.js';
 const LEAST_MEMORY = 7168;
 const LEAST_WORK = 5 * LEAST_MEMORY;
 const ROUNDS = 3;
+/** The longest time that the addon is passed: eleven days. */
+const MOST_MILLISECONDS = 10 ** 9;
 
-/** Strong settings whose hash takes at most this many milliseconds here. */
+/** Strong settings whose hash takes at most this many milliseconds here. The addon searches, or else this package. */
 export async function tune(milliseconds, options = {}) {
     const { memoryCost = 65536, parallelism = 1, ...running } = { __proto__: null, ...options };
-    const settingsOf = (memory, timeCost) => ({ ...DEFAULTS, memoryCost: memory, timeCost, parallelism });
+    if (typeof milliseconds !== 'number') {
+        throw new TypeError("'milliseconds' has to be a number");
+    }
+    const within = milliseconds > 0 ? Math.min(milliseconds, MOST_MILLISECONDS) : 0;
+    const settings = { ...DEFAULTS, memoryCost, parallelism };
+    const found = await searchByAddon({ __proto__: null, ...running, ...settings }, within);
+    if (found === null) {
+        throw tooSlow(milliseconds, memoryCost);
+    }
+    const costs = found ?? await fittingCosts(milliseconds, memoryCost, measureBy(running, settings));
+    const parameters = { ...settings, memoryCost: costs.memory, timeCost: costs.passes };
+    return { parameters, milliseconds: costs.took, load: loadOfSystem() };
+}
+
+/** Returns a function that measures a hash with a memory and passes. */
+function measureBy(running, settings) {
     const salt = allocate(8);
-    const measure = (memory, passes) => leastOf({ __proto__: null, ...running, ...settingsOf(memory, passes), salt });
-    const { memory, passes, took } = await fittingCosts(milliseconds, memoryCost, measure);
-    return { parameters: settingsOf(memory, passes), milliseconds: took, load: loadOfSystem() };
+    return (memoryCost, timeCost) => leastOf({ __proto__: null, ...running, ...settings, memoryCost, timeCost, salt });
 }
 
 /** Halves the memory until a hash fits into the time, and then adds as many passes as fit. */
 export async function fittingCosts(milliseconds, memoryCost, measure) {
-    if (typeof milliseconds !== 'number') {
-        throw new TypeError("'milliseconds' has to be a number");
-    }
     for (let memory = memoryCost; memory >= LEAST_MEMORY; memory = Math.floor(memory / 2)) {
         const passes = Math.ceil(LEAST_WORK / memory);
         const took = await measure(memory, passes);
@@ -31,9 +43,11 @@ export async function fittingCosts(milliseconds, memoryCost, measure) {
             return withPasses(milliseconds, { memory, passes, took }, measure);
         }
     }
-    const limits = `within ${memoryCost} KiB take at most ${milliseconds} milliseconds`;
-    throw new RangeError(`no settings for passwords ${limits} here`);
+    throw tooSlow(milliseconds, memoryCost);
 }
+
+const tooSlow = (milliseconds, memoryCost) =>
+    new RangeError(`no settings for passwords within ${memoryCost} KiB take at most ${milliseconds} milliseconds here`);
 
 /** Raises the passes as far as the time allows. */
 async function withPasses(milliseconds, costs, measure) {

@@ -81,7 +81,8 @@ async function outcomesWithInherited(call) {
         memoryCost: 8, timeCost: 1, parallelism: 8, type: 0, version: 16, hashLength: 4, salt: SALT, limits: null,
         raw: true, secret: SALT, associatedData: 1, worker: 1, threads: 0, onProgress: 1, work: 1, line: 1,
         acceptUnpeppered: true, concurrency: 0, waiting: 0,
-        encoded: ENCODED, code: 0, helpers: 1, failure: 'x', invitations: 1,
+        encoded: ENCODED, code: 0, helpers: 1, failure: 'x', invitations: 1, isUnknown: true, found: SALT,
+        nanoseconds: 1n, newSettings: [],
     };
     for (const [name, value] of Object.entries(added)) {
         Object.defineProperty(Object.prototype, name, { value, configurable: true, writable: true });
