@@ -57,10 +57,11 @@ static size_t kept(void)
 /* Begins with a handle for at most so many buffers, and with the usual call. */
 static bool begin(uint32_t most)
 {
+    const bool is_known = take(&usual); /* (libargon2 may make requests) */
     held = most_held = 0;
     refuse_nothing();
     with = (proved_argon2_options)PROVED_ARGON2_OPTIONS;
-    return take(&usual) && proved_argon2_buffers_new(&usual, most, &with.buffers) == PROVED_ARGON2_OK && requests == 1;
+    return is_known && proved_argon2_buffers_new(&usual, most, &with.buffers) == PROVED_ARGON2_OK && requests == 1;
 }
 
 /* Frees the handle. Whether nothing is held then. */
@@ -311,6 +312,7 @@ static void *hash_slowly(void *arg)
     uint8_t tag[TAG];
     slow.progress = hold_up;
     is_other_right = hash_raw(&slow, &call, tag) == PROVED_ARGON2_OK && memcmp(tag, expected, TAG) == 0;
+    sem_post(&is_computing); /* (if it failed before) */
     return arg;
 }
 
@@ -339,7 +341,12 @@ static bool child_is_right(const void *used, size_t others)
 static bool is_child_beside_right(uint32_t most)
 {
     pthread_t thread;
-    bool good = begin(most) && __real_pthread_create(&thread, NULL, hash_slowly, NULL) == 0;
+    sem_init(&is_computing, 0, 0);
+    sem_init(&goes_further, 0, 0);
+    bool good = begin(most);
+    if (__real_pthread_create(&thread, NULL, hash_slowly, NULL) != 0) {
+        return false;
+    }
     sem_wait(&is_computing);
     const uint8_t *const mapped = last_mapped, *const used = mapped + (-(uintptr_t)mapped & ((2u << 20) - 1));
     const pid_t child = fork();
@@ -365,8 +372,6 @@ static int fork_in_the_middle(void *child, uint64_t done, uint64_t all)
 static void check_forks(void)
 {
     pid_t child = -1;
-    sem_init(&is_computing, 0, 0);
-    sem_init(&goes_further, 0, 0);
     check(is_child_beside_right(1), "a child does not use the buffer of a thread of its parent");
     check(is_child_beside_right(2), "a child makes another buffer, if there may be one");
     bool good = begin(1) && hashes(&with, 1);

@@ -155,7 +155,7 @@ static void check_disturbed(void)
     check(by_one, "one disturbed hash, even the first, changes nothing");
     begin(1);
     own.slower = 3;
-    own.disturbed = UINT64_C(0xDB6DB6DB6DB6DB6D); /* (of each three bits two) */
+    own.disturbed = UINT64_C(0xB6DB6DB6DB6DB6DB); /* (of each three bits the first two) */
     by_two = is_found(&(struct row){200, 65536, 1, 65536, 1});
     check(by_two, "of three hashes the fastest counts");
 }
