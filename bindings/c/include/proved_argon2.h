@@ -17,11 +17,11 @@
  * error is reported, in this order: wrong options, an unknown variant, an unknown version, the encoded hash, its
  * limits, settings in the order of the MIN and MAX constants below, the buffer's length, and memory. A call that makes
  * a salt does so before it checks any of these. No call prints, ends the process or changes errno. A call waits only
- * for its own threads and, if it makes a salt, for the system's random bytes. It reads only its arguments.
- * The first call of a process also finds out which of the library's builds the processor can run, and reads the
- * environment variable PROVED_ARGON2_CPU, with which tests choose a build. If none can run, each call that can fail
- * returns PROVED_ARGON2_OLD_PROCESSOR before it reads variant, version or encoded hash, and calls that return lengths,
- * limits, settings or the version return zeros.
+ * for its own threads and, if it makes a salt, for the system's random bytes. It reads only its arguments and, if it
+ * has kept buffers or tunes, a clock. The first call of a process also finds out which of the library's builds the
+ * processor can run, and reads the environment variable PROVED_ARGON2_CPU, with which tests choose a build. If none can
+ * run, each call that can fail returns PROVED_ARGON2_OLD_PROCESSOR before it reads variant, version or encoded hash,
+ * and calls that return lengths, limits, settings or the version return zeros.
  *
  * Memory. A call that hashes or verifies allocates at most the settings' mem_cost KiB for its blocks, and memory for
  * the tag, and for the hash and the salt of an encoded hash. If the blocks need 2 MiB or more, they use huge pages if
