@@ -17,8 +17,8 @@
  * tag. The theorems EveryRunGivesTheTag and EveryRunGivesTheVerdict prove this for any order of a slice's lanes. It
  * is argued, not proved, that concurrent steps leave the same blocks. Nothing is claimed about the tag after any other
  * sequence of steps, or if anything else wrote to the blocks. proved_argon2_job_hash_over and
- * proved_argon2_job_verify_over do all steps except the first in one call, lane by lane. proved_argon2_hash_over and
- * proved_argon2_verify_over do the first step too.
+ * proved_argon2_job_verify_over do all steps except the first in one call, and fill two lanes by turns.
+ * proved_argon2_hash_over and proved_argon2_verify_over do the first step too.
  *
  * Each call checks the numbers and lengths that it is passed, in this order, and returns
  *
