@@ -4,7 +4,6 @@
  */
 #include "proved_argon2.h"
 
-#include <pthread.h>
 #include <semaphore.h>
 #include <stdbool.h>
 #include <stdint.h>
@@ -20,37 +19,23 @@ enum {
 /* What to answer: let the user in; reject with HTTP status 401; for BUSY and ERROR "try again later", with 503. */
 enum verdict { MATCHES, DIFFERS, BUSY, ERROR };
 
-/* A reusable buffer for one hash at a time. It spares the time in which the system maps, clears and unmaps memory. */
-struct buffer {
-    void *memory;
-    size_t length;
-};
-
 struct logins {
-    sem_t room, places; /* how many more logins may be here, and how many places are free */
-    pthread_mutex_t lock;
-    struct buffer free[PLACES]; /* the buffers of the free places */
-    size_t count;
+    sem_t room, places;             /* how many more logins may be here, and how many places are free */
+    proved_argon2_buffers *buffers; /* kept buffers, or null */
 };
 
-/* Call it once, after the service has forked. A place whose buffer is denied computes without one. */
+/* Call it once. If the system denies memory for the handle, each login allocates and frees its own memory. */
 static bool begin_logins(struct logins *logins)
 {
     const proved_argon2_settings new_settings = proved_argon2_owasp2();
-    logins->count = 0;
-    while (logins->count < PLACES) {
-        struct buffer *const buffer = &logins->free[logins->count++];
-        if (proved_argon2_memory_new(&new_settings, &buffer->memory, &buffer->length) != PROVED_ARGON2_OK) {
-            buffer->memory = NULL;
-            buffer->length = 0;
-        }
+    if (proved_argon2_buffers_new(&new_settings, PLACES, &logins->buffers) != PROVED_ARGON2_OK) {
+        logins->buffers = NULL;
     }
-    return pthread_mutex_init(&logins->lock, NULL) == 0 && sem_init(&logins->room, 0, PLACES + WAITING) == 0
-        && sem_init(&logins->places, 0, PLACES) == 0;
+    return sem_init(&logins->room, 0, PLACES + WAITING) == 0 && sem_init(&logins->places, 0, PLACES) == 0;
 }
 
-/* Waits for a place, and takes its buffer. Returns false at once if too many logins wait. */
-static bool enter(struct logins *logins, struct buffer *buffer)
+/* Waits for a place. Returns false at once if too many logins wait. */
+static bool enter(struct logins *logins)
 {
     if (sem_trywait(&logins->room) != 0) {
         return false;
@@ -58,17 +43,11 @@ static bool enter(struct logins *logins, struct buffer *buffer)
     while (sem_wait(&logins->places) != 0) {
         /* a signal has interrupted it */
     }
-    pthread_mutex_lock(&logins->lock);
-    *buffer = logins->free[--logins->count];
-    pthread_mutex_unlock(&logins->lock);
     return true;
 }
 
-static void leave(struct logins *logins, struct buffer buffer)
+static void leave(struct logins *logins)
 {
-    pthread_mutex_lock(&logins->lock);
-    logins->free[logins->count++] = buffer;
-    pthread_mutex_unlock(&logins->lock);
     sem_post(&logins->places);
     sem_post(&logins->room);
 }
@@ -81,14 +60,6 @@ static void note(const char *event, const char *user)
         name[at] = user[at] >= ' ' && user[at] <= '~' ? user[at] : '?';
     }
     fprintf(stderr, "%s: %s\n", event, name);
-}
-
-/* Whether a stored hash can be verified in the buffer. One with larger settings gets memory of its own. */
-static bool fits(struct buffer buffer, const char *stored)
-{
-    proved_argon2_stored read;
-    return proved_argon2_read(stored, strlen(stored), &read) == PROVED_ARGON2_OK
-        && proved_argon2_memory_len(&read.settings) <= buffer.length;
 }
 
 /* Verifies a password, and writes the new hash over `stored` if the old one has other settings than new hashes. */
@@ -123,23 +94,19 @@ static enum verdict log_in(struct logins *logins, const char *user, const void *
     const proved_argon2_settings new_settings = proved_argon2_owasp2();
     const proved_argon2_limits limits = proved_argon2_default_limits();
     proved_argon2_options options = {.size = sizeof options, .limits = &limits, .new_settings = &new_settings};
-    struct buffer buffer;
     if (length > LONGEST) {
         note("too long a password", user);
         return DIFFERS;
     }
-    if (!enter(logins, &buffer)) {
+    if (!enter(logins)) {
         note("busy", user);
         return BUSY;
     }
     options.progress = has_left;
     options.arg = client;
-    if (buffer.memory != NULL && (stored == NULL || fits(buffer, stored))) {
-        options.memory = buffer.memory;
-        options.memory_len = buffer.length;
-    }
+    options.buffers = logins->buffers;
     const uint32_t code = verify(options, user, password, length, stored);
-    leave(logins, buffer);
+    leave(logins);
     note(code == PROVED_ARGON2_OK ? "logged in" : proved_argon2_message(code), user);
     return code == PROVED_ARGON2_OK ? MATCHES : code == PROVED_ARGON2_MISMATCH ? DIFFERS : ERROR;
 }
