@@ -1,5 +1,6 @@
-/* What the two parts of the driver share: proved_argon2_driver.c computes, and proved_argon2_calls.c implements the
- * calls of the headers. The driver is tested, not proved. */
+/* What the parts of the driver share: proved_argon2_driver.c computes, proved_argon2_calls.c implements the calls that
+ * hash or verify, proved_argon2_buffers.c keeps buffers, and proved_argon2_tune.c searches for settings. The driver is
+ * tested, not proved. */
 #ifndef DRIVER_H
 #define DRIVER_H
 
