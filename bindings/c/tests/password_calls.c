@@ -159,6 +159,19 @@ static void check_other_settings(const char *text)
     check(is_wrong, "a wrong password, and a wrong pepper, with one other setting");
 }
 
+/* A salt of another length makes a rehash due too, if the options name a length and new settings. */
+static void check_other_salt(const char *text)
+{
+    const proved_argon2_options same = {.size = sizeof same, .new_settings = &small, .new_salt_len = 16};
+    const proved_argon2_options other = {.size = sizeof other, .new_settings = &small, .new_salt_len = 15};
+    const proved_argon2_options alone = {.size = sizeof alone, .new_salt_len = 15};
+    check(rehash_verdict(same, text, "password", 5) == PROVED_ARGON2_OK
+            && rehash_verdict(other, text, "password", 5) == PROVED_ARGON2_NEEDS_REHASH
+            && rehash_verdict(alone, text, "password", 5) == PROVED_ARGON2_OK,
+        "a match with a salt of another length");
+    check_code(rehash_verdict(other, text, "Password", 5), PROVED_ARGON2_MISMATCH, "a wrong password with such a salt");
+}
+
 static void check_rehash(void)
 {
     static const char old[] = "$argon2i$m=256,t=2,p=2$c29tZXNhbHQ$tsEVYKap1h6scGt5ovl9aLRGOqOth+AMB+KwHpDFZPs";
@@ -170,6 +183,7 @@ static void check_rehash(void)
     const uint32_t code = proved_argon2_password_hash_with(&with, &small, text, "password", 8, pepper, 5);
     check_code(code, PROVED_ARGON2_OK, "a text with a pepper");
     check_other_settings(text);
+    check_other_salt(text);
     check_code(rehash_verdict(options, old, "password", 0), PROVED_ARGON2_NEEDS_REHASH, "a text of libargon2");
     check_code(rehash_verdict(options, old, "Password", 0), PROVED_ARGON2_MISMATCH, "a wrong password of it");
     check_code(rehash_verdict(options, old + 1, "password", 0), PROVED_ARGON2_DECODING_FAIL, "no text");
@@ -229,5 +243,5 @@ int main(void)
     check_lengths();
     check_rehash();
     check_unknown();
-    return finish(29);
+    return finish(31);
 }
