@@ -27,9 +27,7 @@ func TestMemoryDoesNotGrow(t *testing.T) {
 		for i := 0; i < count; i++ {
 			must(Verify(must(h.Hash(ctx, password)), password))
 			must(HashRaw(password, password, small()))
-			if i%10 == 0 {
-				must(NewHasher(small(), mostBuffers, 0)) // (16 KiB for the places of its buffers)
-			}
+			must(NewHasher(small(), mostBuffers, 0)) // (16 KiB for the places of its buffers)
 			if i%200 == 0 {
 				runtime.GC()
 				other := must(NewHasher(small(), 1, 0))

@@ -298,6 +298,17 @@ class HashQueueTest {
     }
 
     @Test
+    void closingEndsAllIdleThreads() throws InterruptedException {
+        HashQueue other = new HashQueue(3, 0, Duration.ofMinutes(5));
+        for (int call = 0; call < 3; call++) {
+            soon(other.submit(() -> ""));
+        }
+        assertEquals(3, threads());
+        other.close();
+        await(() -> threads() == 0);
+    }
+
+    @Test
     void whoWaitsForAClosedQueueIsStopped() {
         CompletableFuture<Boolean> hasBegun = new CompletableFuture<>();
         CompletableFuture<Void> caller = CompletableFuture.runAsync(() -> assertFails(STOPPED, () -> queue.run(() -> {
