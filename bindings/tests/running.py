@@ -80,10 +80,10 @@ def refuses(status, text, *words, **named):
     return done.stderr
 
 
-def fetch(call, *words):
-    """Returns whether a call of fetching.bash finds what it wants."""
+def fetch(call, *words, release="sid"):
+    """Returns whether a call of fetching.bash finds what it wants in a release of Debian."""
     script = 'source bindings/tests/fetching.bash && "$@"'
-    return start("bash", "-c", script, "bash", call, "sid", *words).returncode == 0
+    return start("bash", "-c", script, "bash", call, release, *words).returncode == 0
 
 
 @functools.lru_cache(None)

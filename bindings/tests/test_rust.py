@@ -257,6 +257,21 @@ def test_a_program_links_the_library_without_kernels(cargo, tmp_path):
     assert is_without_kernels(tmp_path / "target/debug/without")
 
 
+def test_a_program_with_the_traits_of_password_hash_0_5_succeeds(cargo, tmp_path):
+    """It needs crates of Debian 13, beside those of this system."""
+    for name in "password-hash", "base64ct", "rand-core", "subtle", "getrandom", "cfg-if", "libc":
+        if not fetch("fetch_package", f"librust-{name}-dev", tmp_path, release="trixie"):
+            pytest.skip("password-hash 0.5 cannot be had")
+    (tmp_path / "crates").mkdir()
+    found = {file.name: file for file in (*REGISTRY.iterdir(), *tmp_path.glob("usr/share/cargo/registry/*"))}
+    for name, crate in found.items():
+        (tmp_path / "crates" / name).symlink_to(crate)
+    (tmp_path / "config.toml").write_text(CRATES_OF_DEBIAN.replace(str(REGISTRY), str(tmp_path / "crates")))
+    folder = project(tmp_path / "of_0_5", (HERE / "traits.rs").read_text(), with_crate("password-hash"))
+    run(*RUN, cwd=folder, env={**cargo, "CARGO_HOME": tmp_path, "CARGO_TARGET_DIR": tmp_path / "target"})
+    assert 'name = "password-hash"\nversion = "0.5.' in (folder / "Cargo.lock").read_text()
+
+
 def test_a_program_with_the_traits_of_password_hash_0_6_succeeds(cargo, tmp_path):
     """It needs crates of Debian's next release: those of this one are too old."""
     names = "password-hash", "phc", "base64ct", "ctutils", "cmov", "getrandom", "cfg-if", "libc"
