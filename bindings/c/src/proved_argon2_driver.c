@@ -117,10 +117,24 @@ static bool claim(struct call *call, uint64_t step, uint32_t number)
     return atomic_compare_exchange_strong(&call->workers[number].state, &before, before + 1);
 }
 
-/* Writes the first blocks of a lane, which are in its segment of the first slice. */
+/* Writes a byte at the beginning of each huge page that begins in a segment. The blocks are not yet computed. */
+static void touch_pages(block *segment, uint32_t length)
+{
+    char *const bytes = (char *)segment;
+    const size_t len = length * sizeof(block);
+    for (size_t at = -(uintptr_t)bytes % HUGE_PAGE; at < len; at += HUGE_PAGE) {
+        bytes[at] = 0;
+    }
+}
+
+/* Writes the first blocks of a lane, which are in its segment of the first slice. If there are several threads, each
+ * touches other pages first. If two of them touched the same page, the system would clear two pages for them. */
 static uint32_t begin_lane(struct call *call, uint32_t lane)
 {
     const uint32_t length = call->job.segment_length;
+    for (uint32_t slice = 0; slice < SLICES && call->tasks > 1; slice++) {
+        touch_pages(call->blocks + slice * call->slice + (size_t)lane * length, length);
+    }
     return proved_argon2_job_begin(&call->job, lane, call->blocks + (size_t)lane * length, length);
 }
 
