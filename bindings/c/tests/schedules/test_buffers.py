@@ -1,6 +1,6 @@
 """Runs callers of kept buffers (bindings/c/src/proved_argon2_buffers.c) in every way in which they can go, for some
-callers, calls, buffers and switches, and counts the runs. explore_buffers.c states what must hold in each run. Then each
-fault is planted, and has to be found.
+callers, calls, buffers and switches, and counts the runs. explore_buffers.c states what must hold in each run. Then
+each fault is planted, and has to be found.
 """
 
 import subprocess
@@ -36,7 +36,8 @@ FAULTS = {
     'a buffer counts as idle for ever': ('    taken->state = now;\n', '    taken->state = 1;\n'),
     'a buffer is not given back': ('    taken->state = now;\n', ''),
     'there is a place more': ('all->most = most;', 'all->most = most + 1;'),
-    'a timer waits for the last buffer': ('next = left < next ? left : next;', 'next = left != UINT64_MAX ? left : next;'),
+    'a timer waits for the last buffer': (
+        'next = left < next ? left : next;', 'next = left != UINT64_MAX ? left : next;'),
     'a timer is early': ('(uint32_t)((next - 1) / MILLISECOND + 1)', '(uint32_t)(next / MILLISECOND)'),
     'the time of a look before the hash counts': (
         'const uint32_t code = proved_driver_compute(call, hash, tag);\n    const uint64_t now = proved_driver_now();',

@@ -5,9 +5,9 @@ archive. (valgrind knows no AVX-512. The build for x86-64-v4 differs only in its
 that is shown to branch on its flag alone and to compute no address.) With Argon2i, no branch or address may depend on
 these before there is a tag, a text or a verdict on a hash, except two branches on the letters of a stored hash. With
 Argon2d and Argon2id, the addresses used to find, prefetch and read a block that other blocks select may also depend on
-them, but no further branch may. Memcheck must report the leaks that are planted in the library (plant_leak.py) and in its driver;
-otherwise this test shows nothing. calls.c makes the calls, which cases.py lists. depends.txt has what each case may
-report.
+them, but no further branch may. Memcheck must report the leaks that are planted in the library (plant_leak.py) and in
+its driver; otherwise this test shows nothing. calls.c makes the calls, which cases.py lists. depends.txt has what each
+case may report.
 """
 
 import os
