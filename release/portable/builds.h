@@ -27,6 +27,13 @@
 
 #else
 
+/* A build with a kernel, whose compression is not proved. An archive may have only the others (build/link). */
+#ifdef ONLY_PROVED
+#define WITH_KERNEL(...)
+#else
+#define WITH_KERNEL(...) __VA_ARGS__
+#endif
+
 /* The builds, newest last: the number of each, and the name that its calls contain. Builds for x86-64 keep Linux's
  * calling convention, which compilers for Windows know too. */
 /* clang-format off */
@@ -35,7 +42,7 @@
 /* builds for ARM64, by .ci/pages/presets */
 #define EACH_BUILD(each, ...) \
     each(ARMV8_A, armv8_a, __VA_ARGS__) \
-    each(ARMV8_A_NEON, armv8_a_neon, __VA_ARGS__)
+    WITH_KERNEL(each(ARMV8_A_NEON, armv8_a_neon, __VA_ARGS__))
 /* end */
 #else
 #define BY_LINUX __attribute__((sysv_abi))
@@ -43,7 +50,7 @@
 #define EACH_BUILD(each, ...) \
     each(X86_64_V2, x86_64_v2, __VA_ARGS__) \
     each(X86_64_V3, x86_64_v3, __VA_ARGS__) \
-    each(X86_64_V4, x86_64_v4, __VA_ARGS__)
+    WITH_KERNEL(each(X86_64_V4, x86_64_v4, __VA_ARGS__))
 /* end */
 #endif
 /* clang-format on */

@@ -1,5 +1,6 @@
-/* What the two parts of the driver share: proved_argon2_driver.c computes, and proved_argon2_calls.c implements the
- * calls of the headers. The driver is tested, not proved. */
+/* What the parts of the driver share: proved_argon2_driver.c computes, proved_argon2_calls.c implements the calls that
+ * hash or verify, proved_argon2_buffers.c keeps buffers, and proved_argon2_tune.c searches for settings. The driver is
+ * tested, not proved. */
 #ifndef DRIVER_H
 #define DRIVER_H
 
@@ -44,11 +45,10 @@ struct call {
     block *blocks;
     size_t slice; /* how many blocks each of the four slices has */
     worker *workers;
-    uint32_t tasks;        /* how many workers there are */
-    team *team;            /* the call's own threads: one for each worker from 1 on, unless it was denied */
-    uint64_t step;         /* step 0 writes the first blocks, and step n + 1 fills slice number n, over all passes */
-    atomic_bool is_over;   /* no further step follows */
-    atomic_bool is_astray; /* a pool ran a task that does not exist, or ran one twice */
+    uint32_t tasks;      /* how many workers there are */
+    team *team;          /* the call's own threads: one for each worker from 1 on, unless it was denied */
+    uint64_t step;       /* step 0 writes the first blocks, and step n + 1 fills slice number n, over all passes */
+    atomic_bool is_over; /* no further step follows */
 };
 
 /* The size of the blocks of a job in bytes, which may be more than the address space has. */
@@ -67,6 +67,9 @@ uint32_t proved_driver_take_bytes(struct call *call, uint64_t len);
 
 /* Computes the tag of a job that was checked. If hash is not null, returns whether it matches. */
 uint32_t proved_driver_compute(struct call *call, const uint8_t *hash, uint8_t *tag);
+
+/* The same in a kept buffer of the call's options, if one can be had. */
+uint32_t proved_driver_compute_kept(struct call *call, const uint8_t *hash, uint8_t *tag);
 
 /* Ends a call with its result: clears its bytes, its job, the stack and the registers. */
 CLEARS_REGISTERS uint32_t proved_driver_end_call(struct call *call, uint32_t code);

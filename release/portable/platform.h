@@ -34,17 +34,17 @@ void *proved_driver_take_lines(size_t bytes);
 void proved_driver_free_lines(void *lines);
 
 /* Maps 2 MiB or more at a multiple of 2 MiB, or returns null. The memory is zero and in no core dump. It uses huge
- * pages where the system has them, and small pages for the rest. */
+ * pages where the system has them, and small pages for a short rest. The system allocates a page once it is touched. */
 void *proved_driver_map_pages(size_t bytes);
 
 /* Returns pages to the system, which clears them. */
 void proved_driver_unmap_pages(void *pages, size_t bytes);
 
-/* Makes the system allocate this part of the pages now, if it can. Returns false if the system denies them. */
-bool proved_driver_populate_pages(void *pages, size_t bytes);
-
 /* Reads random bytes from the system. Returns whether there were enough. */
 bool proved_driver_take_random(uint8_t *bytes, size_t len);
+
+/* The time in nanoseconds by a clock that nobody sets. */
+uint64_t proved_driver_now(void);
 
 /* Overwrites bytes with zeros. The compiler cannot remove this. */
 void proved_driver_overwrite(void *bytes, size_t len);

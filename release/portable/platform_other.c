@@ -7,8 +7,10 @@
 #include <stdlib.h>
 #include <string.h>
 #include <sys/random.h>
+#include <time.h>
 
 #define LINE 64
+#define SECOND UINT64_C(1000000000) /* in nanoseconds */
 
 /* Writes zeros that no compiler leaves out: it cannot know that this is memset. */
 static void *(*const volatile fill)(void *, int, size_t) = memset;
@@ -48,13 +50,6 @@ void proved_driver_unmap_pages(void *pages, size_t bytes)
     proved_driver_free_lines(pages);
 }
 
-bool proved_driver_populate_pages(void *pages, size_t bytes)
-{
-    (void)pages;
-    (void)bytes;
-    return true;
-}
-
 bool proved_driver_take_random(uint8_t *bytes, size_t len)
 {
 #ifdef __APPLE__
@@ -62,6 +57,13 @@ bool proved_driver_take_random(uint8_t *bytes, size_t len)
 #else
     return getrandom(bytes, len, 0) == (ssize_t)len;
 #endif
+}
+
+uint64_t proved_driver_now(void)
+{
+    struct timespec now = {0};
+    clock_gettime(CLOCK_MONOTONIC, &now);
+    return (uint64_t)now.tv_sec * SECOND + (uint64_t)now.tv_nsec;
 }
 
 void proved_driver_overwrite(void *bytes, size_t len)

@@ -11,11 +11,13 @@
 #include <string.h>
 #include <sys/mman.h>
 #include <sys/random.h>
+#include <time.h>
 #include <unistd.h>
 
 #define LINE 64
+#define SECOND UINT64_C(1000000000) /* in nanoseconds */
 #define HUGE_PAGE ((size_t)2 << 20)
-#define POPULATE 23        /* MADV_POPULATE_WRITE of Linux 5.14 */
+#define LONG_REST ((size_t)768 << 10) /* bytes behind the last whole huge page (docs/DECISIONS.md) */
 #define STACK (128 * 1024) /* bytes for a thread's calls; as many or more are added for thread-local variables */
 #define MOST_VARIABLES ((size_t)1 << 30)
 #define NO_MEMORY (SIZE_MAX / 16 * 15) /* bytes: more than any address space has */
@@ -49,12 +51,20 @@ static void *take_pages(size_t bytes)
     return pages == MAP_FAILED ? NULL : pages;
 }
 
+/* How many bytes are mapped for this many: whole pages. A long rest gets a huge page too, which the system allocates in
+ * less time than many small pages. */
+static size_t mapped_len(size_t bytes)
+{
+    const size_t page = bytes % HUGE_PAGE < LONG_REST ? (size_t)sysconf(_SC_PAGESIZE) : HUGE_PAGE;
+    return (bytes + page - 1) / page * page;
+}
+
 void *proved_driver_map_pages(size_t bytes)
 {
     if (bytes > SIZE_MAX - 2 * HUGE_PAGE) {
         return NULL;
     }
-    const size_t page = (size_t)sysconf(_SC_PAGESIZE), whole = (bytes + page - 1) / page * page;
+    const size_t whole = mapped_len(bytes);
     char *const all = take_pages(whole + HUGE_PAGE);
     if (all == NULL) {
         return NULL;
@@ -71,15 +81,10 @@ void *proved_driver_map_pages(size_t bytes)
  * denies if the process has as many mappings as it may have. The pages then stay, but give back what they hold. */
 void proved_driver_unmap_pages(void *pages, size_t bytes)
 {
-    if (munmap(pages, bytes) != 0) {
+    if (munmap(pages, mapped_len(bytes)) != 0) {
         proved_driver_overwrite(pages, bytes);
-        madvise(pages, bytes, MADV_DONTNEED);
+        madvise(pages, mapped_len(bytes), MADV_DONTNEED);
     }
-}
-
-bool proved_driver_populate_pages(void *pages, size_t bytes)
-{
-    return madvise(pages, bytes, POPULATE) == 0 || (errno != ENOMEM && errno != EFAULT);
 }
 
 bool proved_driver_take_random(uint8_t *bytes, size_t len)
@@ -89,6 +94,13 @@ bool proved_driver_take_random(uint8_t *bytes, size_t len)
         received = getrandom(bytes, len, 0);
     } while (received < 0 && errno == EINTR);
     return received == (ssize_t)len;
+}
+
+uint64_t proved_driver_now(void)
+{
+    struct timespec now = {0};
+    clock_gettime(CLOCK_MONOTONIC, &now);
+    return (uint64_t)now.tv_sec * SECOND + (uint64_t)now.tv_nsec;
 }
 
 void proved_driver_overwrite(void *bytes, size_t len)

@@ -14,7 +14,8 @@
 #include <stdlib.h>
 
 #define LINE 64
-#define STACK (256 * 1024) /* bytes of a thread */
+#define SECOND UINT64_C(1000000000) /* in nanoseconds */
+#define STACK (256 * 1024)          /* bytes of a thread */
 
 caller proved_driver_keep_caller(void)
 {
@@ -48,16 +49,18 @@ void proved_driver_unmap_pages(void *pages, size_t bytes)
     VirtualFree(pages, 0, MEM_RELEASE);
 }
 
-bool proved_driver_populate_pages(void *pages, size_t bytes)
-{
-    (void)pages;
-    (void)bytes;
-    return true;
-}
-
 bool proved_driver_take_random(uint8_t *bytes, size_t len)
 {
     return len <= ULONG_MAX && RtlGenRandom(bytes, (ULONG)len);
+}
+
+uint64_t proved_driver_now(void)
+{
+    LARGE_INTEGER now, second;
+    QueryPerformanceCounter(&now);
+    QueryPerformanceFrequency(&second);
+    const uint64_t ticks = (uint64_t)now.QuadPart, each = (uint64_t)second.QuadPart;
+    return ticks / each * SECOND + ticks % each * SECOND / each;
 }
 
 void proved_driver_overwrite(void *bytes, size_t len)

@@ -17,11 +17,11 @@
  * error is reported, in this order: wrong options, an unknown variant, an unknown version, the encoded hash, its
  * limits, settings in the order of the MIN and MAX constants below, the buffer's length, and memory. A call that makes
  * a salt does so before it checks any of these. No call prints, ends the process or changes errno. A call waits only
- * for its own threads or your pool and, if it makes a salt, for the system's random bytes. It reads only its arguments.
- * The first call of a process also finds out which of the library's builds the processor can run, and reads the
- * environment variable PROVED_ARGON2_CPU, with which tests choose a build. If none can run, each call that can fail
- * returns PROVED_ARGON2_OLD_PROCESSOR before it reads variant, version or encoded hash, and calls that return lengths,
- * limits, settings or the version return zeros.
+ * for its own threads and, if it makes a salt, for the system's random bytes. It reads only its arguments and, if it
+ * has kept buffers or tunes, a clock. The first call of a process also finds out which of the library's builds the
+ * processor can run, and reads the environment variable PROVED_ARGON2_CPU, with which tests choose a build. If none can
+ * run, each call that can fail returns PROVED_ARGON2_OLD_PROCESSOR before it reads variant, version or encoded hash,
+ * and calls that return lengths, limits, settings or the version return zeros.
  *
  * Memory. A call that hashes or verifies allocates at most the settings' mem_cost KiB for its blocks, and memory for
  * the tag, and for the hash and the salt of an encoded hash. If the blocks need 2 MiB or more, they use huge pages if
@@ -31,10 +31,9 @@
  *
  * Threads. Calls are thread-safe, as long as nothing writes to what a call is passed: an encoded hash that changes
  * while it is read may end the process. The only state of the library is which build it runs. Deferred cancellation
- * never ends a call. Asynchronous cancellation can end a proved call at any point. It can end any other call just
- * before that call returns. It can also end a call that makes a salt right after the salt was made. Calls are not
- * async-signal-safe, so make none from a signal handler. In the forked child of a process with threads, calls are safe
- * if malloc is, as with the GNU C library.
+ * never ends a call. Do not cancel a thread asynchronously during a call. Calls are not async-signal-safe, so make none
+ * from a signal handler. In the forked child of a process with threads, calls are safe if malloc is, as with the GNU C
+ * library.
  *
  * Symbols. Each symbol of the library begins with proved_, so that a program can link libargon2 too.
  */
@@ -112,7 +111,7 @@ enum proved_argon2_code {
     PROVED_ARGON2_INCORRECT_VERSION = 18, /* no version has this number */
     PROVED_ARGON2_DECODING_FAIL = 19,     /* the string is not an encoded hash */
     PROVED_ARGON2_OUT_OF_MEMORY = 20,     /* memory could not be allocated, or the buffer of the options is too small */
-    PROVED_ARGON2_WORKER_REFUSED = 21,    /* the thread pool of the options did not run its tasks */
+    PROVED_ARGON2_WORKER_REFUSED = 21,    /* never returned */
     PROVED_ARGON2_MISMATCH = 64,          /* the password does not match */
     PROVED_ARGON2_WRONG_LENGTH = 65,      /* a buffer has the wrong length, or the options have an unknown size */
     PROVED_ARGON2_NOT_ASCII = 66,         /* the string has a byte above 127 */
@@ -129,7 +128,7 @@ enum proved_argon2_code {
     PROVED_ARGON2_NO_RANDOM_BYTES = 129, /* the system had no random bytes for a salt */
     PROVED_ARGON2_STOPPED = 130,         /* the progress callback stopped the call */
     PROVED_ARGON2_OLD_PROCESSOR = 131,   /* the library has no build for this processor */
-    PROVED_ARGON2_MISALIGNED = 132,      /* blocks or a reusable buffer are not at a multiple of 8 */
+    PROVED_ARGON2_MISALIGNED = 132,      /* the address of the blocks or of the buffer is not a multiple of 8 */
     /* end */
 };
 
@@ -317,7 +316,8 @@ uint32_t proved_argon2_check_encoded(
 PROVED_ARGON2_CHECKED
 uint64_t proved_argon2_encoded_len(const proved_argon2_settings *settings, uint32_t salt_len);
 
-/* The constant message of the error with this number or, if there is none, of PROVED_ARGON2_UNKNOWN_NUMBER. */
+/* The constant message of a number that a call returns: "No error" for PROVED_ARGON2_OK, and the message of
+ * PROVED_ARGON2_UNKNOWN_NUMBER for a number that no call returns. */
 const char *proved_argon2_message(uint32_t number);
 
 /* clang-format on */
@@ -326,5 +326,6 @@ const char *proved_argon2_message(uint32_t number);
 #endif
 #include "proved_argon2_jobs.h"
 #include "proved_argon2_threads.h"
+#include "proved_argon2_service.h"
 #include "proved_argon2_password.h"
 #endif

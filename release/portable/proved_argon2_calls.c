@@ -3,17 +3,15 @@
 
 static const options plain = PROVED_ARGON2_OPTIONS; /* one thread, and memory that the call allocates */
 
-/* Checks the inputs of a hash and the length of its output, and makes its job. An error of the inputs comes first. */
+/* Makes the job of a hash, which checks its inputs. If the output has a wrong length, an error of the inputs comes
+ * first. */
 static uint32_t make_job(struct call *call, INPUTS, bool is_length_right)
 {
+    if (is_length_right) {
+        return proved_argon2_job_make(OF_INPUTS, &call->job);
+    }
     const uint32_t code = proved_argon2_check(settings, pwd_len, salt_len, secret_len, ad_len);
-    if (code != PROVED_ARGON2_OK) {
-        return code;
-    }
-    if (!is_length_right) {
-        return PROVED_ARGON2_WRONG_LENGTH;
-    }
-    return proved_argon2_job_make(OF_INPUTS, &call->job);
+    return code == PROVED_ARGON2_OK ? PROVED_ARGON2_WRONG_LENGTH : code;
 }
 
 uint32_t proved_argon2_hash_raw_with(const options *with, INPUTS, uint8_t *out, size_t out_len)
@@ -27,7 +25,7 @@ uint32_t proved_argon2_hash_raw_with(const options *with, INPUTS, uint8_t *out, 
     if (code != PROVED_ARGON2_OK) {
         goto end;
     }
-    code = proved_driver_compute(&call, NULL, out);
+    code = proved_driver_compute_kept(&call, NULL, out);
 end:
     return proved_driver_end_call(&call, code);
 }
@@ -52,7 +50,7 @@ uint32_t proved_argon2_hash_encoded_with(const options *with, INPUTS, char *text
     if (code != PROVED_ARGON2_OK) {
         goto end;
     }
-    code = proved_driver_compute(&call, NULL, call.bytes);
+    code = proved_driver_compute_kept(&call, NULL, call.bytes);
     if (code != PROVED_ARGON2_OK) {
         goto end;
     }
@@ -87,7 +85,7 @@ uint32_t proved_argon2_verify_raw_with(const options *with, INPUTS, const uint8_
     if (code != PROVED_ARGON2_OK) {
         goto end;
     }
-    code = proved_driver_compute(&call, hash, call.bytes);
+    code = proved_driver_compute_kept(&call, hash, call.bytes);
 end:
     return proved_driver_end_call(&call, code);
 }
@@ -103,6 +101,13 @@ static bool are_same(const proved_argon2_settings *one, const proved_argon2_sett
         && one->time_cost == other->time_cost && one->lanes == other->lanes && one->hash_length == other->hash_length;
 }
 
+/* Whether an encoded hash has the settings of new hashes, and a salt as long as theirs if the options name a length. */
+static bool is_new(const proved_argon2_stored *stored, const options *with)
+{
+    const bool is_salt_new = with->new_salt_len == 0 || stored->salt_length == with->new_salt_len;
+    return is_salt_new && are_same(&stored->settings, with->new_settings);
+}
+
 /* Reads the job of an encoded hash. The call's bytes then contain the stored tag, room for the computed tag, and the
  * salt. The encoded hash is checked first, so that a rejected one costs no memory. */
 static uint32_t read_text(struct call *call, STORED)
@@ -114,7 +119,7 @@ static uint32_t read_text(struct call *call, STORED)
     if (code != PROVED_ARGON2_OK) {
         return code;
     }
-    call->is_rehash_due = call->with.new_settings != NULL && !are_same(&stored.settings, call->with.new_settings);
+    call->is_rehash_due = call->with.new_settings != NULL && !is_new(&stored, &call->with);
     const size_t len = stored.settings.hash_length, salt_len = stored.salt_length;
     code = proved_driver_take_bytes(call, 2 * (uint64_t)len + salt_len);
     if (code != PROVED_ARGON2_OK) {
@@ -142,7 +147,7 @@ uint32_t proved_argon2_verify_encoded_with(const options *with, STORED)
     if (code != PROVED_ARGON2_OK) {
         goto end;
     }
-    code = proved_driver_compute(&call, call.bytes, call.bytes + call.job.hash_length);
+    code = proved_driver_compute_kept(&call, call.bytes, call.bytes + call.job.hash_length);
     /* (is_rehash_due comes first: so no branch depends on the verdict, unless the caller asked about a rehash.) */
     if (call.is_rehash_due && code == PROVED_ARGON2_OK) {
         code = PROVED_ARGON2_NEEDS_REHASH;
@@ -188,7 +193,7 @@ static uint32_t run(const options *with, const proved_argon2_job *job, const uin
     if (code != PROVED_ARGON2_OK) {
         goto end;
     }
-    code = proved_driver_compute(&call, hash, hash == NULL ? tag : call.bytes);
+    code = proved_driver_compute_kept(&call, hash, hash == NULL ? tag : call.bytes);
 end:
     return proved_driver_end_call(&call, code);
 }
@@ -202,27 +207,6 @@ uint32_t proved_argon2_job_run_verify(
     const options *with, const proved_argon2_job *job, const uint8_t *hash, size_t hash_len)
 {
     return run(with, job, hash, NULL, hash_len);
-}
-
-uint32_t proved_argon2_memory_new(const proved_argon2_settings *settings, void **memory, size_t *memory_len)
-{
-    if (settings == NULL || memory == NULL || memory_len == NULL) {
-        return PROVED_ARGON2_NULL_POINTER;
-    }
-    const uint32_t code = proved_argon2_check(settings, 0, PROVED_ARGON2_MIN_SALT_LENGTH, 0, 0);
-    if (code != PROVED_ARGON2_OK) {
-        return code;
-    }
-    const caller saved = proved_driver_keep_caller();
-    const uint64_t len = proved_argon2_memory_len(settings);
-    void *const blocks = proved_driver_take_buffer(len);
-    proved_driver_restore_caller(saved);
-    if (blocks == NULL) {
-        return PROVED_ARGON2_OUT_OF_MEMORY;
-    }
-    *memory = blocks;
-    *memory_len = (size_t)len;
-    return PROVED_ARGON2_OK;
 }
 
 uint32_t proved_argon2_password_hash_with(const options *with, const proved_argon2_settings *settings, char *text,
@@ -282,7 +266,7 @@ uint32_t proved_argon2_password_verify_unknown(const options *with, const proved
     if (code != PROVED_ARGON2_OK) {
         goto end;
     }
-    code = proved_driver_compute(&call, NULL, call.bytes);
+    code = proved_driver_compute_kept(&call, NULL, call.bytes);
 end:
     code = proved_driver_end_call(&call, code);
     return code == PROVED_ARGON2_OK ? PROVED_ARGON2_MISMATCH : code;

@@ -109,29 +109,32 @@ uint32_t proved_driver_end_call(struct call *call, uint32_t code)
     return code;
 }
 
-/* Populates a worker's part of the pages at once. */
-static uint32_t populate(const struct call *call, uint32_t number)
-{
-    const size_t all = (size_t)bytes_of(&call->job), bytes = call->with.memory == NULL && is_mapped(all) ? all : 0;
-    const size_t part = (bytes / call->tasks / HUGE_PAGE + 1) * HUGE_PAGE, from = part * number;
-    const size_t left = from >= bytes ? 0 : bytes - from;
-    return left == 0 || proved_driver_populate_pages((char *)call->blocks + from, left < part ? left : part)
-        ? PROVED_ARGON2_OK
-        : PROVED_ARGON2_OUT_OF_MEMORY;
-}
-
 /* Claims a worker's part of a step. Exactly one thread succeeds, so that each part is taken once, even if threads are
- * late or a pool runs a task twice. Moves: Claims. */
+ * late. Moves: Claims. */
 static bool claim(struct call *call, uint64_t step, uint32_t number)
 {
     uint64_t before = 2 * step;
     return atomic_compare_exchange_strong(&call->workers[number].state, &before, before + 1);
 }
 
-/* Writes the first blocks of a lane, which are in its segment of the first slice. */
+/* Writes a byte at the beginning of each huge page that begins in a segment. The blocks are not yet computed. */
+static void touch_pages(block *segment, uint32_t length)
+{
+    char *const bytes = (char *)segment;
+    const size_t len = length * sizeof(block);
+    for (size_t at = -(uintptr_t)bytes % HUGE_PAGE; at < len; at += HUGE_PAGE) {
+        bytes[at] = 0;
+    }
+}
+
+/* Writes the first blocks of a lane, which are in its segment of the first slice. If there are several threads, each
+ * touches other pages first. If two of them touched the same page, the system would clear two pages for them. */
 static uint32_t begin_lane(struct call *call, uint32_t lane)
 {
     const uint32_t length = call->job.segment_length;
+    for (uint32_t slice = 0; slice < SLICES && call->tasks > 1; slice++) {
+        touch_pages(call->blocks + slice * call->slice + (size_t)lane * length, length);
+    }
     return proved_argon2_job_begin(&call->job, lane, call->blocks + (size_t)lane * length, length);
 }
 
@@ -161,23 +164,12 @@ static uint32_t take_step_of_lane(struct call *call, uint64_t step, uint32_t lan
  * a function that is not yet bound, and the loader would save them on the stack. */
 CLEARS_REGISTERS static void take_step(struct call *call, uint64_t step, uint32_t number)
 {
-    uint32_t code = step == 0 ? populate(call, number) : PROVED_ARGON2_OK;
+    uint32_t code = PROVED_ARGON2_OK;
     for (uint64_t lane = number; lane < call->job.lanes && code == PROVED_ARGON2_OK; lane += call->tasks) {
         code = take_step_of_lane(call, step, (uint32_t)lane);
     }
     call->workers[number].code = code;
     call->workers[number].state = 2 * step + 2; /* Moves: Completes, Fails, Finishes. */
-}
-
-/* A task of a pool, which may run one twice, leave one out, or run one that does not exist. Moves: Runs, Strays. */
-static void run_task(void *arg, uint32_t number)
-{
-    struct call *const call = arg;
-    if (number < call->tasks && claim(call, call->step, number)) {
-        take_step(call, call->step, number);
-    } else {
-        call->is_astray = 1;
-    }
 }
 
 /* Whether a worker's part of a step is so short that its thread may start too late; then others take it. If parts are
@@ -232,8 +224,8 @@ static void wake_team(struct call *call)
     }
 }
 
-/* Takes a step by the call's own threads. The caller's thread takes the part of worker 0, and those of the last workers
- * if the system denied them a thread. Then it waits for each part that another thread took. Moves: Begins, Counts. */
+/* Takes a step. The caller's thread takes the part of worker 0, and those of the last workers if the system denied
+ * them a thread. Then it waits for each part that another thread took. Moves: Begins, Counts. */
 static void run_team(struct call *call)
 {
     wake_team(call);
@@ -247,15 +239,10 @@ static void run_team(struct call *call)
 static uint32_t run_step(struct call *call, uint64_t slices)
 {
     const options *const with = &call->with;
-    bool is_refused = false;
-    if (with->run == NULL) {
-        run_team(call);
-    } else {
-        is_refused = with->run(with->pool, call->tasks, run_task, call) != 0;
-    }
-    uint32_t code = is_refused || call->is_astray ? PROVED_ARGON2_WORKER_REFUSED : PROVED_ARGON2_OK;
+    uint32_t code = PROVED_ARGON2_OK;
+    run_team(call);
     for (uint32_t i = 0; i < call->tasks && code == PROVED_ARGON2_OK; i++) {
-        code = call->workers[i].state == 2 * call->step + 2 ? call->workers[i].code : PROVED_ARGON2_WORKER_REFUSED;
+        code = call->workers[i].code;
     }
     const bool is_reported = code == PROVED_ARGON2_OK && call->step != 0 && with->progress != NULL;
     return is_reported && with->progress(with->arg, call->step, slices) != 0 ? PROVED_ARGON2_STOPPED : code;
@@ -270,8 +257,7 @@ static uint32_t fill(struct call *call)
     if (call->workers == NULL) {
         return PROVED_ARGON2_OUT_OF_MEMORY;
     }
-    call->team = call->tasks > 1 && call->with.run == NULL ? proved_driver_start_team(call->tasks - 1, follow, call)
-                                                           : NULL;
+    call->team = call->tasks > 1 ? proved_driver_start_team(call->tasks - 1, follow, call) : NULL;
     for (; call->step <= slices && code == PROVED_ARGON2_OK; call->step++) {
         code = run_step(call, slices);
     }
@@ -287,8 +273,8 @@ static uint32_t compute_over(struct call *call, const uint8_t *hash, uint8_t *ta
 {
     const block *const last = call->blocks + 3 * call->slice;
     const size_t all = 4 * call->slice, len = call->job.hash_length;
-    const bool is_alone = call->tasks == 1 && call->with.run == NULL && call->with.progress == NULL;
-    const uint32_t code = is_alone ? populate(call, 0) : fill(call);
+    const bool is_alone = call->tasks == 1 && call->with.progress == NULL;
+    const uint32_t code = is_alone ? PROVED_ARGON2_OK : fill(call);
     if (code != PROVED_ARGON2_OK) {
         return code;
     }
@@ -303,12 +289,12 @@ static uint32_t compute_over(struct call *call, const uint8_t *hash, uint8_t *ta
 }
 
 /* How many threads a call uses of those it may use. With little memory or work, more threads take longer to start and
- * wake than they save (docs/DECISIONS.md). A pool gets as many tasks as allowed. */
+ * wake than they save (docs/DECISIONS.md). */
 static uint32_t tasks_of(const struct call *call, uint64_t bytes)
 {
     const uint32_t most = call->with.threads < call->job.lanes ? call->with.threads : call->job.lanes;
     const bool is_paying = is_mapped(bytes) && bytes >= WORK_FOR_THREADS / call->job.passes;
-    return most > 1 && (is_paying || call->with.run != NULL) ? most : 1;
+    return most > 1 && is_paying ? most : 1;
 }
 
 static uint32_t memory_error(const struct call *call, uint64_t bytes)

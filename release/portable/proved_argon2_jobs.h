@@ -17,8 +17,8 @@
  * tag. The theorems EveryRunGivesTheTag and EveryRunGivesTheVerdict prove this for any order of a slice's lanes. It
  * is argued, not proved, that concurrent steps leave the same blocks. Nothing is claimed about the tag after any other
  * sequence of steps, or if anything else wrote to the blocks. proved_argon2_job_hash_over and
- * proved_argon2_job_verify_over do all steps except the first in one call, lane by lane. proved_argon2_hash_over and
- * proved_argon2_verify_over do the first step too.
+ * proved_argon2_job_verify_over do all steps except the first in one call, and fill two lanes by turns.
+ * proved_argon2_hash_over and proved_argon2_verify_over do the first step too.
  *
  * Each call checks the numbers and lengths that it is passed, in this order, and returns
  *
@@ -36,10 +36,11 @@
  * whoever reads it can test a password guess with one BLAKE2b. Guesses can be tested against the blocks, too.
  * proved_argon2_job_run (proved_argon2_threads.h) provides memory and threads for a job, and clears memory.
  */
+/* (in front of the guard, so that any of these headers can be included first) */
+#include "proved_argon2.h"
+
 #ifndef PROVED_ARGON2_JOBS_H
 #define PROVED_ARGON2_JOBS_H
-
-#include "proved_argon2.h"
 
 #ifdef __cplusplus
 extern "C" {

@@ -5,10 +5,11 @@
  *     if (proved_argon2_password_hash(text, password, strlen(password)) != PROVED_ARGON2_OK) ..
  *     if (proved_argon2_password_verify(text, guess, strlen(guess)) == PROVED_ARGON2_OK) ..
  */
+/* (in front of the guard, so that any of these headers can be included first) */
+#include "proved_argon2.h"
+
 #ifndef PROVED_ARGON2_PASSWORD_H
 #define PROVED_ARGON2_PASSWORD_H
-
-#include "proved_argon2.h"
 
 #ifdef __cplusplus
 extern "C" {

@@ -111,6 +111,9 @@ static const struct {
 const char *proved_argon2_message(uint32_t number)
 {
     const char *unknown = NULL;
+    if (number == PROVED_ARGON2_OK) {
+        return "No error";
+    }
     for (size_t i = 0; i < sizeof errors / sizeof *errors; i++) {
         if (errors[i].number == number) {
             return errors[i].message;

@@ -1,6 +1,6 @@
 /*
- * The calls of proved_argon2.h with options: with several threads, with the caller's thread pool, in a reusable buffer,
- * or with a progress callback. A job can be run with options too. proved_argon2.h includes this header.
+ * The calls of proved_argon2.h with options: with several threads, in a reusable buffer, or with a progress callback. A
+ * job can be run with options too. proved_argon2.h includes this header.
  *
  * These calls are C code that is tested, not proved, around the proved calls (proved_argon2_jobs.h). Each returns what
  * the call without _with returns, unless an option changes that. If memory cannot be allocated, it returns
@@ -11,22 +11,15 @@
  * are overwritten. On Linux, core dumps leave out the blocks while a call runs, if the call allocated them itself
  * and they are 2 MiB or more.
  */
+/* (in front of the guard, so that any of these headers can be included first) */
+#include "proved_argon2.h"
+
 #ifndef PROVED_ARGON2_THREADS_H
 #define PROVED_ARGON2_THREADS_H
-
-#include "proved_argon2.h"
 
 #ifdef __cplusplus
 extern "C" {
 #endif
-
-/*
- * Your thread pool, which runs tasks instead of the call's own threads. It calls task(arg, i) once for each i below
- * tasks, in any threads, in any order or at the same time, and returns 0 after all of them have returned. If it returns
- * another number, no task may be running any more, and the call returns PROVED_ARGON2_WORKER_REFUSED. The call also
- * returns that if the pool leaves a task out, runs one twice, or runs one that does not exist.
- */
-typedef int proved_argon2_run(void *pool, uint32_t tasks, void (*task)(void *arg, uint32_t i), void *arg);
 
 /*
  * The progress callback. The calling thread calls it after each slice: done is the number of filled slices, from 1
@@ -35,10 +28,13 @@ typedef int proved_argon2_run(void *pool, uint32_t tasks, void (*task)(void *arg
  */
 typedef int proved_argon2_progress(void *arg, uint64_t done, uint64_t all);
 
-/* The most threads that verify an encoded hash. A hash that somebody else wrote could name millions of lanes. */
+/* A verification uses at most this many threads, since an attacker's hash could ask for millions of lanes. */
 /* most threads of a string, by .ci/pages/presets */
 #define PROVED_ARGON2_MAX_VERIFYING_THREADS 16
 /* end */
+
+/* A handle of kept buffers, which calls take and give back (proved_argon2_service.h). */
+typedef struct proved_argon2_buffers proved_argon2_buffers;
 
 /* How a call computes. A field that an initializer leaves out is 0; its comment says what that means. */
 typedef struct proved_argon2_options {
@@ -46,20 +42,15 @@ typedef struct proved_argon2_options {
      * version may have, if it is at most 4096 and all bytes behind the fields of this version are zero. For any other
      * size, 0 or a smaller one included, it returns PROVED_ARGON2_WRONG_LENGTH. */
     size_t size;
-    /* the maximum number of threads, or of tasks of run. It is limited to the number of lanes and, if the call verifies
-     * an encoded hash or an unknown user, to PROVED_ARGON2_MAX_VERIFYING_THREADS. 0 means 1. Unless run is set, the
-     * calling thread counts as one of them, and a small hash uses only that thread. */
+    /* the maximum number of threads. It is limited to the number of lanes and, if the call verifies an encoded hash or
+     * an unknown user, to PROVED_ARGON2_MAX_VERIFYING_THREADS. 0 means 1. The calling thread counts as one of them, and
+     * a small hash uses only that thread. */
     uint32_t threads;
     /* a buffer for the blocks, or null: then the call allocates memory. Its address must be a multiple of 8 (otherwise
      * the call returns PROVED_ARGON2_MISALIGNED), preferably of 64. The call clears what it used before it returns. */
     void *memory;
     /* the length of the buffer in bytes. If the settings need more, the call returns PROVED_ARGON2_OUT_OF_MEMORY. */
     size_t memory_len;
-    /* your thread pool, which runs the tasks of each slice, or null: then the call starts threads. If the pool leaves a
-     * task out, runs one twice, or runs one that does not exist, the call returns PROVED_ARGON2_WORKER_REFUSED. */
-    proved_argon2_run *run;
-    /* the first argument of run */
-    void *pool;
     /* the limits of an encoded hash, or null for none. For a hash above one of them the call returns
      * PROVED_ARGON2_TOO_COSTLY. */
     const proved_argon2_limits *limits;
@@ -72,10 +63,15 @@ typedef struct proved_argon2_options {
      * than these, a call that verifies it returns PROVED_ARGON2_NEEDS_REHASH instead of PROVED_ARGON2_OK. Let the user
      * in then too, and hash the password again. */
     const proved_argon2_settings *new_settings;
+    /* kept buffers, or null (proved_argon2_service.h). They are not used if memory is set. */
+    proved_argon2_buffers *buffers;
+    /* the length of new salts, or 0. If new_settings is set, an encoded hash with a salt of another length counts as
+     * one with other settings. 0 means that lengths of salts are not compared. */
+    size_t new_salt_len;
 } proved_argon2_options;
 
 /* clang-format off */
-#define PROVED_ARGON2_OPTIONS {sizeof(proved_argon2_options), 0, NULL, 0, NULL, NULL, NULL, NULL, NULL, NULL}
+#define PROVED_ARGON2_OPTIONS {sizeof(proved_argon2_options), 0, NULL, 0, NULL, NULL, NULL, NULL, NULL, 0}
 
 /* proved_argon2_hash_raw with options. */
 PROVED_ARGON2_CHECKED
