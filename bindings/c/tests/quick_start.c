@@ -51,8 +51,7 @@ static bool begin_service(struct service *service)
     return proved_argon2_buffers_new(&service->new_settings, 8, &service->options.buffers) == PROVED_ARGON2_OK;
 }
 
-/* Returns what a login returns. `stored` is NULL for unknown users: the call takes as long as usual, and never matches.
- * */
+/* Returns the verdict of a login. `stored` is NULL for unknown users: the call takes as long, and never matches. */
 static uint32_t log_in(const struct service *service, const char *stored, const char *password, size_t length)
 {
     return stored == NULL

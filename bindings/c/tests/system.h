@@ -112,8 +112,7 @@ static inline void refuse_request(size_t number)
     refused_request = number;
 }
 
-/* Returns whether the calling thread blocks the signals that come from outside: threads that it starts block them too.
- * */
+/* Returns whether the calling thread blocks the signals that come from outside. Threads that it starts do so too. */
 static inline bool has_blocked_signals(void)
 {
     static const int from_outside[] = {SIGHUP, SIGINT, SIGTERM, SIGALRM, SIGCHLD, SIGUSR1, SIGUSR2, SIGPIPE};
