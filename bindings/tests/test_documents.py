@@ -53,7 +53,7 @@ import asyncio
 async def serve():
     assert await log_in("ada", password) is True and await log_in("ada", "wrong") is False
     assert await log_in("nobody", password) is False
-    assert await log_in_with_pepper(key_id, stored, password) == (True, None)
+    assert await log_in_with_pepper(*peppered.hash(password), password) == (True, None)
     answers = await asyncio.gather(*[log_in("ada", password) for _ in range(69)], return_exceptions=True)
     assert answers[:68] == [True] * 68 and type(answers[68]).__name__ == "BusyError"
     assert (await tune_while_serving()).memory_cost <= 65536
@@ -203,13 +203,6 @@ def test_the_manual_and_the_help_have_the_same_forms():
     helped = re.findall(r"^  NAME ((?:new|check|tune|hash|verify|rehash)\b.*[A-Z].*)$", HELP, re.M)
     assert {form.split()[0] for form in helped} == {"new", "check", "tune", "hash", "verify", "rehash"}
     assert {" ".join(form.replace("'TEXT'", "TEXT").split()) for form in helped} <= documented
-
-
-def test_the_manual_names_the_command_that_the_script_does_itself():
-    said = {word: piped([word], command=[TOOL])[2] for word in ("new", "check", "tune", "hash", "verify", "rehash")}
-    (unknown,) = [word for word, text in said.items() if b"there is no command" in text]
-    assert f"It executes {unknown} itself, and passes all other commands on" in " ".join(
-        plain(part(1, "DESCRIPTION")).split())
 
 
 def test_each_page_names_the_settings_that_the_library_recommends():
