@@ -184,9 +184,8 @@ def test_the_build_is_chosen_for_the_processor(module, env, build):
 def test_without_cgo_or_a_library_the_build_says_why(module, env):
     why = 'cannot use "argon2 needs cgo, a C compiler, and linux/amd64, linux/arm64 or windows/amd64: set CGO_ENABLED=1'
     for more in ({"CGO_ENABLED": 0}, {"GOARCH": "riscv64"}):
-        said = refuses(1 if "go1.2" in run("go", "version") else 2, why, "go", "build", "./...", cwd=module,
-                       env={**env, **more})
-        assert why in said.splitlines()[1]  # below the package's name, and above the names that are missing
+        refuses(1 if "go1.2" in run("go", "version") else 2, why, "go", "build", "./...", cwd=module,
+                env={**env, **more})
 
 
 def test_threads_that_are_denied_change_no_hash(module, env, drawn, tmp_path):
