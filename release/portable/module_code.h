@@ -66,8 +66,6 @@ static u32 w2c_proved_argon2_check_encoded(Z_proved_instance_t*, u64, u64, u64, 
 static u32 w2c_rattle__export_proved_argon2_check_encoded(Z_proved_instance_t*, u64, u64, u64, u64, u64, u64, u64);
 static void w2c_proved_argon2_default_limits(Z_proved_instance_t*, u64);
 static void w2c_rattle__export_proved_argon2_default_limits(Z_proved_instance_t*, u64);
-static u64 w2c_proved_argon2_expect(Z_proved_instance_t*, u64);
-static u64 w2c_rattle__export_proved_argon2_expect(Z_proved_instance_t*, u64);
 static u32 w2c_proved_argon2_hash_over(Z_proved_instance_t*, u64, u64, u64, u64, u64, u64, u64, u64, u64, u64, u64, u64, u64);
 static u32 w2c_rattle__export_proved_argon2_hash_over(Z_proved_instance_t*, u64, u64, u64, u64, u64, u64, u64, u64, u64, u64, u64, u64, u64);
 static u32 w2c_proved_argon2_job_begin(Z_proved_instance_t*, u64, u32, u64, u64);
@@ -29073,34 +29071,6 @@ static void w2c_rattle__export_proved_argon2_default_limits(Z_proved_instance_t*
   w2c_j2 = 0ull;
   (*Z_memoryZ_i64_store)(instance->Z_memory_instance, w2c_j0, w2c_j1, w2c_j2);
   FUNC_EPILOGUE;
-}
-
-static u64 w2c_proved_argon2_expect(Z_proved_instance_t* instance, u64 w2c_p0) {
-  FUNC_PROLOGUE;
-  u32 w2c_i0;
-  u64 w2c_j0;
-  w2c_i0 = w2c___rattle_enter(instance);
-  w2c_i0 = !(w2c_i0);
-  if (w2c_i0) {goto w2c_B0;}
-  w2c___rattle_trap(instance);
-  UNREACHABLE;
-  w2c_B0:;
-  w2c_j0 = w2c_p0;
-  w2c_j0 = w2c_rattle__export_proved_argon2_expect(instance, w2c_j0);
-  w2c_p0 = w2c_j0;
-  w2c___rattle_leave(instance);
-  w2c_j0 = w2c_p0;
-  FUNC_EPILOGUE;
-  return w2c_j0;
-}
-
-static u64 w2c_rattle__export_proved_argon2_expect(Z_proved_instance_t* instance, u64 w2c_p0) {
-  FUNC_PROLOGUE;
-  u64 w2c_j0;
-  w2c_j0 = w2c_p0;
-  w2c_j0 = w2c_argon2_c__prefetching__proved_argon2_expect(instance, w2c_j0);
-  FUNC_EPILOGUE;
-  return w2c_j0;
 }
 
 static u32 w2c_proved_argon2_hash_over(Z_proved_instance_t* instance, u64 w2c_p0, u64 w2c_p1, u64 w2c_p2, u64 w2c_p3, u64 w2c_p4, u64 w2c_p5, u64 w2c_p6, u64 w2c_p7, 
