@@ -26,6 +26,8 @@ from running import ahead
 from running import rows as rows_of
 
 SECONDS = 3600
+# (once, since pytest changes its variables while threads start programs)
+ENVIRONMENT = {**os.environ}
 # The builds, each with how many places find or read the block that is referred to, and how many find and prefetch it.
 READS = dict(zip(machines()['x86_64'].proved, ((10, 2), (9, 2)), strict=True))
 # Memcheck does not see a prefetch. So the function that prefetches reads, as that does which is proved.
@@ -98,7 +100,7 @@ class Came:
     def __init__(self, program, cpu, case, options, kinds, most):
         questions = [one for kind in kinds for asked in of.asked(case, options, *kind)[:most] for one in asked]
         ran = subprocess.run([*MEMCHECK, program], input=b''.join(question.packed() for question in questions),
-                             capture_output=True, check=False, env={**os.environ, 'PROVED_ARGON2_CPU': cpu},
+                             capture_output=True, check=False, env={**ENVIRONMENT, 'PROVED_ARGON2_CPU': cpu},
                              timeout=SECONDS)
         self.log, answers, self.places = ran.stderr.decode(errors='replace'), of.answers(ran.stdout), defaultdict(list)
         for count, kind in PLACE.findall(self.log.partition('ERROR SUMMARY')[2]):
