@@ -36,5 +36,7 @@ def test_the_library_has_code_of_our_crates_and_of_those_that_the_spdx_file_list
     ours = {folder.name for folder in (TOP / 'crates').iterdir()}
     assert 'argon2_c::job_calls::proved_argon2_job_make' in functions and len(functions) > 300
     listed = {*re.findall('^PackageName: (.*)$', (TOP / 'proved-argon2.spdx').read_text(encoding='utf-8'), re.M)}
-    assert {name for name in functions if name.partition('::')[0] not in ours} == set()
+    # (an empty function that stands for an instruction; each build replaces the function that calls it)
+    others = {name for name in functions if name.partition('::')[0] not in ours}
+    assert others <= {'core::hint::spin_loop', 'std::hint::spin_loop'}
     assert listed == {'proved-argon2', 'libgcc'}  # (libgcc belongs to gcc, and is only in Windows files)
