@@ -47,7 +47,12 @@ public final class HashQueue implements AutoCloseable {
     private final Task<?> end = new Task<>(null, null);
     private volatile boolean isClosed;
 
-    /** A queue in which {@code concurrency} calls compute at a time, at least 1, and {@code waiting} more wait. */
+    /**
+     * Makes a queue.
+     *
+     * @param concurrency how many calls compute at a time, at least 1
+     * @param waiting how many more calls may wait
+     */
     public HashQueue(int concurrency, int waiting) {
         this(concurrency, waiting, IDLE);
     }
@@ -65,6 +70,9 @@ public final class HashQueue implements AutoCloseable {
     /**
      * {@return a queue that computes {@code processors / lanes} hashes at a time, or fewer if only those fit into
      * {@code bytes} of memory; at least one} 16 times as many calls wait.
+     *
+     * @param settings the settings of the hashes
+     * @param bytes the memory that all hashes together may use
      */
     public static HashQueue of(Settings settings, long bytes) {
         int used = settings.memory() - settings.memory() % (4 * settings.lanes()); // in KiB, as the library rounds it
@@ -78,6 +86,10 @@ public final class HashQueue implements AutoCloseable {
      * after the current slice; so does completing it in another way, as {@code orTimeout} does. Run what depends on the
      * future in other threads, as {@code thenAcceptAsync} does. Leave the password as it is until the future is done.
      * If no more calls may wait, the future has failed with {@link Reason#BUSY}.
+     *
+     * @param <T> the type of the result
+     * @param call the call, which runs in a thread of the queue
+     * @return the future of what the call returns or throws
      */
     public <T> CompletableFuture<T> submit(Supplier<T> call) {
         return enqueue(new Task<>(call, null));
@@ -87,6 +99,10 @@ public final class HashQueue implements AutoCloseable {
      * Does what {@link #submit} does, and waits for what the call returns or throws. Interrupting the caller cancels
      * the call. Throws {@link Reason#STOPPED} if the queue is closed meanwhile. Within a call of this queue, also if
      * that waits for a call in another queue, the call is made at once, in the place that there is.
+     *
+     * @param <T> the type of the result
+     * @param call the call, which runs in a thread of the queue
+     * @return what the call returns
      */
     public <T> T run(Supplier<T> call) {
         Task<?> outer = Thread.currentThread() instanceof Worker worker ? worker.task : null;

@@ -16,7 +16,11 @@ public record Limits(int memory, int passes, int lanes, long work) {
     public static final Limits NONE =
         new Limits(Integer.MAX_VALUE, Integer.MAX_VALUE, Integer.MAX_VALUE, Long.MAX_VALUE);
 
-    /** {@return the default limits, each raised to that of these settings if that is more} */
+    /**
+     * {@return the default limits, each raised to that of these settings if that is more}
+     *
+     * @param settings the settings whose hashes have to be within the limits
+     */
     public static Limits atLeast(Settings settings) {
         return new Limits(Math.max(DEFAULT.memory, settings.memory()), Math.max(DEFAULT.passes, settings.passes()),
             Math.max(DEFAULT.lanes, settings.lanes()),

@@ -42,12 +42,20 @@ public class PasswordHasher {
         this(Settings.owasp2());
     }
 
-    /** A hasher with these settings. It verifies hashes within the default limits, raised to these settings. */
+    /**
+     * A hasher with these settings. It verifies hashes within the default limits, raised to these settings.
+     *
+     * @param settings the settings of new hashes
+     */
     public PasswordHasher(Settings settings) {
         this(settings, Limits.atLeast(settings), NONE, NONE);
     }
 
-    /** A copy of a hasher, for classes that extend this one. */
+    /**
+     * A copy of a hasher, for classes that extend this one.
+     *
+     * @param other the hasher to copy
+     */
     protected PasswordHasher(PasswordHasher other) {
         this(other.settings, other.limits, other.pepper, other.associatedData);
     }
@@ -59,7 +67,11 @@ public class PasswordHasher {
         this.associatedData = associatedData;
     }
 
-    /** {@return the same hasher with other limits for stored hashes} */
+    /**
+     * {@return the same hasher with other limits for stored hashes}
+     *
+     * @param most the limits
+     */
     public final PasswordHasher withLimits(Limits most) {
         return new PasswordHasher(settings, most, pepper, associatedData);
     }
@@ -67,90 +79,159 @@ public class PasswordHasher {
     /**
      * {@return the same hasher with a pepper, a secret key} {@link Peppers} manages several. An empty key throws {@link
      * Reason#INVALID_PEPPERS}: it would be no pepper.
+     *
+     * @param key the key, which is copied
      */
     public final PasswordHasher withPepper(byte[] key) {
         Argon2Exception.require(key.length > 0, Reason.INVALID_PEPPERS);
         return new PasswordHasher(settings, limits, key.clone(), associatedData);
     }
 
-    /** {@return the same hasher with associated data, such as the user's ID} With other data a hash does not match. */
+    /**
+     * {@return the same hasher with associated data, such as the user's ID} With other data a hash does not match.
+     *
+     * @param data the data, which is copied
+     */
     public final PasswordHasher withAssociatedData(byte[] data) {
         return new PasswordHasher(settings, limits, pepper, data.clone());
     }
 
-    /** {@return the encoded hash of a password, with a new random salt} */
+    /**
+     * {@return the encoded hash of a password, with a new random salt}
+     *
+     * @param password the password, hashed as UTF-8
+     */
     public final String hash(char[] password) {
         return encoded(CharBuffer.wrap(password), this::hash);
     }
 
-    /** {@return the encoded hash of a password, with a new random salt} */
+    /**
+     * {@return the encoded hash of a password, with a new random salt}
+     *
+     * @param password the password
+     */
     public final String hash(byte[] password) {
         byte[] salt = new byte[settings.saltLength()];
         random.nextBytes(salt);
         return hash(password, salt);
     }
 
-    /** {@return the raw hash of a password, for example a key} The salt is used as it is, whatever its length. */
+    /**
+     * {@return the raw hash of a password, for example a key}
+     *
+     * @param password the password, hashed as UTF-8
+     * @param salt the salt, at least 8 bytes; the length in the settings has no effect
+     */
     public final byte[] hashRaw(char[] password, byte[] salt) {
         return encoded(CharBuffer.wrap(password), bytes -> hashRaw(bytes, salt));
     }
 
-    /** {@return the raw hash of a password, for example a key} The salt is used as it is, whatever its length. */
+    /**
+     * {@return the raw hash of a password, for example a key}
+     *
+     * @param password the password
+     * @param salt the salt, at least 8 bytes; the length in the settings has no effect
+     */
     public final byte[] hashRaw(byte[] password, byte[] salt) {
         byte[] tag = output(settings.hashLength());
         call(Native.Call.HASH_RAW, password, Objects.requireNonNull(salt), tag);
         return tag;
     }
 
-    /** {@return whether a stored hash is that of the password} */
+    /**
+     * {@return whether a stored hash is that of the password}
+     *
+     * @param stored the encoded hash
+     * @param password the password, hashed as UTF-8
+     */
     public final boolean verify(String stored, char[] password) {
         return encoded(CharBuffer.wrap(password), bytes -> verify(stored, bytes));
     }
 
-    /** {@return whether a stored hash is that of the password} */
+    /**
+     * {@return whether a stored hash is that of the password}
+     *
+     * @param stored the encoded hash
+     * @param password the password
+     */
     public final boolean verify(String stored, byte[] password) {
         return verdict(stored, password) != Native.MISMATCH;
     }
 
-    /** {@return whether the password is right, and the new hash to store if the stored one has other settings} */
+    /**
+     * {@return whether the password is right, and the new hash to store if the stored one has other settings}
+     *
+     * @param stored the encoded hash
+     * @param password the password, hashed as UTF-8
+     */
     public final Verdict<String> verifyAndUpdate(String stored, char[] password) {
         return encoded(CharBuffer.wrap(password), bytes -> verifyAndUpdate(stored, bytes));
     }
 
-    /** {@return whether the password is right, and the new hash to store if the stored one has other settings} */
+    /**
+     * {@return whether the password is right, and the new hash to store if the stored one has other settings}
+     *
+     * @param stored the encoded hash
+     * @param password the password
+     */
     public final Verdict<String> verifyAndUpdate(String stored, byte[] password) {
         return verifyAndUpdate(stored, password, this);
     }
 
-    /** {@return false, taking as long as verifying a hash with these settings} For a user who does not exist. */
+    /**
+     * {@return false, taking as long as verifying a hash with these settings} For a user who does not exist.
+     *
+     * @param password the password, hashed as UTF-8
+     */
     public final boolean verifyUnknown(char[] password) {
         return encoded(CharBuffer.wrap(password), this::verifyUnknown);
     }
 
-    /** {@return false, taking as long as verifying a hash with these settings} For a user who does not exist. */
+    /**
+     * {@return false, taking as long as verifying a hash with these settings} For a user who does not exist.
+     *
+     * @param password the password
+     */
     public final boolean verifyUnknown(byte[] password) {
         call(Native.Call.VERIFY_UNKNOWN, password, NONE, NONE, Native.MISMATCH);
         return false;
     }
 
-    /** {@return whether a stored hash has other settings, or a salt of another length} It computes no hash. */
+    /**
+     * {@return whether a stored hash has other settings, or a salt of another length} It computes no hash.
+     *
+     * @param stored the encoded hash
+     */
     public final boolean needsRehash(String stored) {
         byte[] text = stored.getBytes(StandardCharsets.UTF_8);
         return call(Native.Call.NEEDS_REHASH, NONE, NONE, text, Native.NEEDS_REHASH) == Native.NEEDS_REHASH;
     }
 
-    /** {@return what {@link #hash(char[])} does} */
+    /**
+     * {@return what {@link #hash(char[])} does}
+     *
+     * @param password the password, hashed as UTF-8
+     */
     public final String encode(CharSequence password) {
         return encoded(CharBuffer.wrap(password), this::hash);
     }
 
-    /** {@return what {@link #verify(String, char[])} does} A stored null or "" means {@link #verifyUnknown(char[])}. */
+    /**
+     * {@return what {@link #verify(String, char[])} does}
+     *
+     * @param password the password, hashed as UTF-8
+     * @param stored the encoded hash; null or "" means {@link #verifyUnknown(char[])}
+     */
     public final boolean matches(CharSequence password, String stored) {
         boolean isKnown = stored != null && !stored.isEmpty();
         return encoded(CharBuffer.wrap(password), bytes -> isKnown ? verify(stored, bytes) : verifyUnknown(bytes));
     }
 
-    /** {@return what {@link #needsRehash} does} */
+    /**
+     * {@return what {@link #needsRehash} does}
+     *
+     * @param stored the encoded hash
+     */
     public final boolean upgradeEncoding(String stored) {
         return needsRehash(stored);
     }

@@ -35,7 +35,12 @@ public final class Peppers {
      */
     public record Stored(String id, String hash) {}
 
-    /** Peppers for a hasher, the newest first. Wrong ones throw {@link Reason#INVALID_PEPPERS}. */
+    /**
+     * Peppers for a hasher. Wrong ones throw {@link Reason#INVALID_PEPPERS}.
+     *
+     * @param hasher the hasher
+     * @param peppers the peppers, the newest first
+     */
     public Peppers(PasswordHasher hasher, Pepper... peppers) {
         Argon2Exception.require(peppers.length > 0, Reason.INVALID_PEPPERS);
         newest = peppers[0].id;
@@ -58,22 +63,42 @@ public final class Peppers {
         return new Peppers(this);
     }
 
-    /** {@return the hash of a password with the newest pepper} */
+    /**
+     * {@return the hash of a password with the newest pepper}
+     *
+     * @param password the password, hashed as UTF-8
+     */
     public Stored hash(char[] password) {
         return PasswordHasher.encoded(CharBuffer.wrap(password), this::hash);
     }
 
-    /** {@return the hash of a password with the newest pepper} */
+    /**
+     * {@return the hash of a password with the newest pepper}
+     *
+     * @param password the password
+     */
     public Stored hash(byte[] password) {
         return new Stored(newest, hashers.get(newest).hash(password));
     }
 
-    /** {@return whether the password is right, and what to store if the hash has an older pepper or other settings} */
+    /**
+     * {@return whether the password is right, and what to store if the hash has an older pepper or other settings}
+     *
+     * @param id the ID that is stored beside the hash
+     * @param stored the encoded hash
+     * @param password the password, hashed as UTF-8
+     */
     public Verdict<Stored> verifyAndUpdate(String id, String stored, char[] password) {
         return PasswordHasher.encoded(CharBuffer.wrap(password), bytes -> verifyAndUpdate(id, stored, bytes));
     }
 
-    /** {@return whether the password is right, and what to store if the hash has an older pepper or other settings} */
+    /**
+     * {@return whether the password is right, and what to store if the hash has an older pepper or other settings}
+     *
+     * @param id the ID that is stored beside the hash
+     * @param stored the encoded hash
+     * @param password the password
+     */
     public Verdict<Stored> verifyAndUpdate(String id, String stored, byte[] password) {
         PasswordHasher hasher = hashers.get(id);
         Argon2Exception.require(hasher != null, Reason.UNKNOWN_PEPPER);
@@ -81,12 +106,20 @@ public final class Peppers {
         return new Verdict<>(verdict.matches(), verdict.update().map(hash -> new Stored(newest, hash)));
     }
 
-    /** {@return false, taking as long as verifying a hash with the newest pepper} For a user who does not exist. */
+    /**
+     * {@return false, taking as long as verifying a hash with the newest pepper} For a user who does not exist.
+     *
+     * @param password the password, hashed as UTF-8
+     */
     public boolean verifyUnknown(char[] password) {
         return hashers.get(newest).verifyUnknown(password);
     }
 
-    /** {@return false, taking as long as verifying a hash with the newest pepper} For a user who does not exist. */
+    /**
+     * {@return false, taking as long as verifying a hash with the newest pepper} For a user who does not exist.
+     *
+     * @param password the password
+     */
     public boolean verifyUnknown(byte[] password) {
         return hashers.get(newest).verifyUnknown(password);
     }

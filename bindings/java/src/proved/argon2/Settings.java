@@ -14,7 +14,17 @@ package proved.argon2;
  */
 public record Settings(
         Variant variant, Version version, int memory, int passes, int lanes, int hashLength, int saltLength) {
-    /** Checks the settings. */
+    /**
+     * Checks the settings.
+     *
+     * @param variant the variant
+     * @param version the version
+     * @param memory the memory in KiB
+     * @param passes the passes
+     * @param lanes the lanes
+     * @param hashLength the length of the hash in bytes
+     * @param saltLength the length of the salt in bytes
+     */
     public Settings {
         int[] numbers = {variant.ordinal(), version.number, Math.max(0, memory), Math.max(0, passes),
             Math.max(0, lanes), Math.max(0, hashLength), Math.max(0, saltLength)};
@@ -41,17 +51,29 @@ public record Settings(
     public static Settings rfc9106LowMem() { return preset(65536, 3); }
     // end
 
-    /** {@return the same settings with other memory, in KiB} */
+    /**
+     * {@return the same settings with other memory}
+     *
+     * @param kib the memory in KiB
+     */
     public Settings withMemory(int kib) {
         return new Settings(variant, version, kib, passes, lanes, hashLength, saltLength);
     }
 
-    /** {@return the same settings with other passes} */
+    /**
+     * {@return the same settings with other passes}
+     *
+     * @param count the passes
+     */
     public Settings withPasses(int count) {
         return new Settings(variant, version, memory, count, lanes, hashLength, saltLength);
     }
 
-    /** {@return the same settings with other lanes} */
+    /**
+     * {@return the same settings with other lanes}
+     *
+     * @param count the lanes
+     */
     public Settings withLanes(int count) {
         return new Settings(variant, version, memory, passes, count, hashLength, saltLength);
     }

@@ -24,6 +24,10 @@ public record Tuning(Settings settings, double milliseconds, OptionalDouble load
      * Measures hashes, and finds strong settings whose hash takes at most {@code within} here: it halves the
      * memory of {@code most} until a hash fits, and then adds as many passes as fit, within the default limits.
      * It finds none if even the weakest settings that protect passwords take longer, or need more memory.
+     *
+     * @param within the longest time of a hash
+     * @param most the settings to begin with, which have the most memory
+     * @return the settings, or nothing
      */
     public static Optional<Tuning> tune(Duration within, Settings most) {
         long nanoseconds = within.isNegative() ? 0 : (within.compareTo(LONGEST) < 0 ? within : LONGEST).toNanos();
