@@ -144,10 +144,11 @@ is_built() {
 others_of() {
     others='build/add_kernel build/link_wasm build/machines.txt bindings/kernels bindings/wasm/instance.s'
     case $1:$(sed -n "s/^$1 .*/machine/p" "$root/build/machines.txt") in
-    windows-x86_64: | portable: | *:machine)
-        others="$others VERSION build/link build/write_coff build/library.map build/translate bindings/c/include
-            bindings/c/src bindings/javascript/addon bindings/shell/words.c
-            $(cd "$root" && echo bindings/libargon2/*.[chm]* bindings/portable/*.* bindings/windows/*.c)"
+    portable:) others="$others build/translate bindings/portable/translate.py" ;;
+    windows-x86_64: | *:machine)
+        others="$others VERSION build/link build/write_coff build/library.map bindings/c/include bindings/c/src
+            bindings/javascript/addon bindings/shell/words.c
+            $(cd "$root" && echo bindings/libargon2/*.[chm]* bindings/windows/*.c)"
         ;;
     esac
 }

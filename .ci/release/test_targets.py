@@ -35,7 +35,9 @@ DECLARED = {
                 'void free(void *), abort(void);',
     'string.h': 'void *memcpy(void *, const void *, size_t), *memmove(void *, const void *, size_t);\n'
                 'void *memset(void *, int, size_t);\nsize_t strlen(const char *);',
-    'sys/random.h': 'int getentropy(void *, size_t);'}
+    'sys/random.h': 'int getentropy(void *, size_t);',
+    'time.h': 'struct timespec {\n    long tv_sec, tv_nsec;\n};\n#define CLOCK_MONOTONIC 6\n'
+              'int clock_gettime(int, struct timespec *);'}
 
 
 def named(**variables):
@@ -293,7 +295,7 @@ def test_compiles_for(target, tmp_path):
         (tmp_path / name).parent.mkdir(exist_ok=True)
         (tmp_path / name).write_text(f'#include <stddef.h>\n{text}\n', encoding='utf-8')
     files = sorted((ready('portable') / 'portable').glob('*.c'))
-    assert len(files) == 8
+    assert len(files) == 10
     for file in files:
         output_of('clang', f'--target={target}', '-nostdlibinc', '-isystem', tmp_path, *WARNINGS, '-c', file, '-o',
                   '/dev/null')

@@ -23,8 +23,10 @@ def sources_in_c():
     released = ROOT.parents[1] / "build/check_release"
     if not released.exists():
         return sorted((ROOT / "c").glob("*"))
-    is_current = subprocess.run([released, "portable"], capture_output=True, check=False).returncode == 0
-    return sorted((ROOT.parents[1] / "release/portable").iterdir()) if is_current else []
+    if subprocess.run([released, "portable"], capture_output=True, check=False).returncode != 0:
+        return []
+    folder = subprocess.check_output([released.with_name("prepare"), "portable"], text=True).rstrip("\n")
+    return sorted(Path(folder, "portable").iterdir())
 
 
 def compile_library(made):

@@ -1,6 +1,6 @@
 //! Finds `libproved_argon2.a` for the target and links it. It looks in the folder that `PROVED_ARGON2_LIB_DIR` names,
 //! in this crate (where `./package` puts it), in the repository's `release/`, and where `pkg-config` finds it. If
-//! there is none for a Linux target, a C compiler builds one from the C sources in `release/portable`.
+//! there is none for a Linux target, a C compiler builds one from the library as C.
 
 use std::env;
 use std::fs;
@@ -38,8 +38,8 @@ fn library_folder() -> Result<PathBuf, String> {
         return with_archive(folder).ok_or(reason);
     }
     let found = name_of_target().and_then(|name| found_folder(&name));
-    match sources_in_c() {
-        Some(sources) if found.is_err() => compiled_folder(&sources),
+    match root_with_sources_in_c() {
+        Some(root) if found.is_err() => compiled_folder(root),
         _ => found,
     }
 }
@@ -109,27 +109,31 @@ fn require_released(root: &Path, part: &str) -> Result<(), String> {
     }
 }
 
-/// The library as C, if `release/` has no archive for the target.
-fn sources_in_c() -> Option<PathBuf> {
-    let release = repository()?.join("release");
+/// The repository, if its `release/` has the library as C, but no archive for the target.
+fn root_with_sources_in_c() -> Option<&'static Path> {
+    let root = repository()?;
+    let release = root.join("release");
     let has_none = name_of_target().ok().and_then(|name| with_archive(release.join(name))).is_none();
-    let sources = release.join("portable");
-    (has_none && target("OS") == "linux" && sources.is_dir()).then_some(sources)
+    (has_none && target("OS") == "linux" && release.join("portable").is_dir()).then_some(root)
 }
 
 /// Compiles the library as C, if it was built from these sources, and returns the folder of the archive.
-fn compiled_folder(sources: &Path) -> Result<PathBuf, String> {
-    let entries = fs::read_dir(sources).map_err(|error| format!("{}: {error}", sources.display()))?;
+fn compiled_folder(root: &Path) -> Result<PathBuf, String> {
+    require_released(root, "portable")?;
+    let folder = PathBuf::from(named("OUT_DIR"));
+    let from = run(Command::new(root.join("build/prepare")).arg("portable").arg(&folder))?;
+    let sources = Path::new(from.trim_end_matches('\n')).join("portable");
+    let entries = fs::read_dir(&sources).map_err(|error| format!("{}: {error}", sources.display()))?;
     let files = entries.flatten().map(|entry| entry.path());
     let c: Vec<_> = files.filter(|file| file.extension() == Some("c".as_ref())).collect();
-    require_released(repository().unwrap_or(sources), "portable")?;
-    let folder = PathBuf::from(named("OUT_DIR"));
     let objects = c.iter().filter_map(|file| Some(file.with_extension("o").file_name()?.to_owned()));
     run(Command::new(tool("CC", "cc")?).args(["-O2", "-fPIC", "-c"]).args(&c).current_dir(&folder))?;
     let _ = fs::remove_file(folder.join(ARCHIVE)); // (`ar` would keep the objects of sources that are gone)
     run(Command::new(tool("AR", "ar")?).args(["rcs", ARCHIVE]).args(objects).current_dir(&folder))?;
     println!("cargo:warning=there is no archive for {}: the library as C was compiled", named("TARGET"));
-    println!("cargo:rerun-if-changed={}", sources.display());
+    for used in ["release/portable", "bindings/c", "bindings/portable"] {
+        println!("cargo:rerun-if-changed={}", root.join(used).display());
+    }
     Ok(folder)
 }
 
@@ -144,9 +148,10 @@ fn tool(variable: &str, usual: &str) -> Result<String, String> {
     })
 }
 
-fn run(command: &mut Command) -> Result<(), String> {
+/// Runs a command and returns its output.
+fn run(command: &mut Command) -> Result<String, String> {
     match command.output() {
-        Ok(done) if done.status.success() => Ok(()),
+        Ok(done) if done.status.success() => Ok(String::from_utf8_lossy(&done.stdout).into_owned()),
         Ok(done) => Err(format!("{command:?}: {}", String::from_utf8_lossy(&done.stderr))),
         Err(error) => Err(format!("{command:?}: {error}")),
     }

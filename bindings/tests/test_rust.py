@@ -455,8 +455,10 @@ class Repository:
         refuses(1, why, self.folder / "script", env=self.variables(target, **named))
 
     def has_sources(self):
-        """Adds the library as C."""
+        """Adds the library as C, as build/prepare finds it."""
         shutil.copytree(built_part("portable") / "portable", self.folder / "release/portable")
+        (self.folder / "build/prepare").write_text(f"#!/bin/sh\necho {self.folder}/release\n")
+        (self.folder / "build/prepare").chmod(0o755)
 
 
 @pytest.fixture(scope="module")
