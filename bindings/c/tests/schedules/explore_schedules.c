@@ -6,8 +6,8 @@
  *     explore_schedules LANES THREADS PASSES SWITCHES    prints how many runs there were, or the first fault with its
  *     choices
  *
- * The model (crates/argon2_c/specs/Team.antt) must allow each move of a thread; otherwise the move is reported as a
- * fault. The last lines say how often each was made.
+ * The models (Team.antt and Threads.antt in crates/argon2_c/specs) must allow each move of a thread; otherwise the move
+ * is reported as a fault. The last lines say how often each was made.
  *
  * Threads are run one at a time. Another may run before each part, wait, progress and atomic access, and after each
  * wake and the start of a team, at most SWITCHES times. If a thread cannot go on, the caller's does, or else the first
@@ -18,6 +18,7 @@
 #define PROVED_ARGON2_PASSWORD_H
 #include "accesses.h"
 #include "driver.h"
+#include "places.h"
 #include <errno.h>
 #include <sanitizer/asan_interface.h>
 #include <sanitizer/common_interface_defs.h>
@@ -26,7 +27,7 @@
 #include <string.h>
 #include <ucontext.h>
 
-enum { MOST_CHOICES = 512, MOST_THREADS = 3, MOST_TAKEN = 4, TAG = 4, ERROR_BEFORE = 77, KIB = 1024, KINDS = 32 };
+enum { MOST_CHOICES = 512, MOST_TAKEN = 4, TAG = 4, ERROR_BEFORE = 77, KIB = 1024, KINDS = 32 };
 enum { LONG = 4 * KIB }; /* blocks of a lane in a slice, which only its own thread takes */
 
 /* ---- what is asked */
@@ -64,7 +65,7 @@ static bool has_another_run(void)
     return known > 0;
 }
 
-static void must(bool holds, const char *what)
+void must(bool holds, const char *what)
 {
     if (!holds) {
         printf("violated: %s;%s%s%s%s%s, at", what, asked.is_large ? " large" : "",
@@ -181,7 +182,7 @@ static struct model {
     bool is_over;
 } model;
 
-#include "guards.h" /* whether Team.antt allows each move (guards.py) */
+#include "team_moves.h" /* whether Team.antt allows each move (moves.py) */
 
 static void make(enum move move, bool can)
 {
@@ -192,6 +193,12 @@ static void make(enum move move, bool can)
 static bool is_at_work(void)
 {
     return model.call != NULL && model.call->workers != NULL;
+}
+
+/* Whether Threads.antt covers what happens: it has no forked children. */
+static bool has_places(void)
+{
+    return is_at_work() && !run.is_forked;
 }
 
 /* Returns whether the running thread counts this step as its own: each thread except the caller's counts the steps that
@@ -232,6 +239,9 @@ static void look_at_moves(void)
     if (model.step != call->step && run.code == PROVED_ARGON2_OK) {
         make(Advances, can_Advances());
         model.step++;
+        if (has_places()) {
+            see_advance();
+        }
     }
     move_workers(false);
     if (call->is_over && !model.is_over) {
@@ -295,6 +305,7 @@ team *proved_driver_start_team(uint32_t count, void (*runs)(void *arg, team *own
     is_joining = false;
     threads[0].woken = threads[0].waited = 0;
     threads[0].state = READY;
+    add_members(granted);
     for (uint32_t i = 1; i <= granted; i++) {
         begin_member(i);
     }
@@ -315,6 +326,7 @@ void proved_driver_wake(team *own, uint32_t number)
         make(Wakes, current == 0 && can_Wakes(number) && model.woken[number] == model.step);
         model.woken[number]++;
     }
+    see_wake(current, number);
     threads[number].woken++;
     threads[number].state = threads[number].state == WAITING ? READY : threads[number].state;
     go_on();
@@ -327,12 +339,15 @@ void proved_driver_await(team *own, uint32_t number)
         return;
     }
     must(number == current, "a thread waits itself");
+    look_at_moves();
+    see_wait(number);
     go_on();
     while (self->woken == self->waited) {
         self->state = WAITING;
         go_on();
     }
     self->waited++;
+    see_awake(number);
     if (number != 0 && is_at_work() && !model.call->is_over) {
         make(Enters, can_Enters(number));
         model.entered[number]++;
@@ -349,6 +364,9 @@ void access_atomically(const void *at, size_t len)
 {
     go_on();
     access_bytes(at, len);
+    if (has_places()) {
+        see_access(current, at);
+    }
 }
 
 bool fails_spuriously(void)
@@ -373,6 +391,9 @@ void proved_driver_end_team(team *own)
             must(run.code != PROVED_ARGON2_OK || threads[i].woken == 4 * asked.passes + 2,
                 "a thread is woken for each step, and at the end");
         }
+    }
+    if (has_places()) {
+        see_return();
     }
     is_team = false;
 }
@@ -482,7 +503,10 @@ static void write_lane(uint64_t step, uint32_t lane)
 {
     const uint32_t worker = lane % model.call->tasks;
     go_on();
-    make(Writes, can_Writes(step, worker) && model.owner[worker] == current);
+    make(Writes, can_Writes(step, worker, lane + 1) && model.owner[worker] == current);
+    if (has_places()) {
+        see_write(current, lane);
+    }
     model.written[lane] = step + 1;
 }
 
@@ -616,6 +640,7 @@ static uint32_t make_call(uint8_t *tag)
     with.arg = &asked;
     uint32_t code = proved_driver_begin_call(&call, &with, false);
     model = (struct model){.call = &call};
+    begin_places(&call, model.written, asked.is_long);
     call.job = job;
     if (!asked.is_verdict) {
         code = proved_driver_compute(&call, NULL, tag);
@@ -691,7 +716,8 @@ int main(int count, char **words)
     }
     printf("%llu runs\n", (unsigned long long)runs);
     for (enum move move = 0; move < ALL_MOVES; move++) {
-        printf("%s %llu\n", move_names[move], (unsigned long long)made[move]);
+        printf("Team %s %llu\n", move_names[move], (unsigned long long)made[move]);
     }
+    print_moves_of_threads();
     return 0;
 }

@@ -1,8 +1,8 @@
 """Runs a call of the driver for C (bindings/c/src/proved_argon2_driver.c) in every way in which it can go, for some
 lanes, threads and passes, and counts the runs. Each request and each thread may be denied, each proved call may fail,
 and the callback may stop or fork. Another thread may run before each atomic access. explore_schedules.c states what
-must hold in each run, and checks each move of a thread against the proved model (crates/argon2_c/specs/Team.antt). Then
-each fault of faults.txt is planted in the driver, and has to be found.
+must hold in each run, and checks each move of a thread against the proved models (Team.antt and Threads.antt in
+crates/argon2_c/specs). Then each fault of faults.txt is planted in the driver, and has to be found.
 """
 
 import functools
@@ -11,13 +11,14 @@ import re
 import subprocess
 from pathlib import Path
 
-import guards
+import moves
 import pytest
 from running import TOP, ahead, rows
 
 HERE = Path(__file__).resolve().parent
 DRIVER = (TOP / 'bindings/c/src/proved_argon2_driver.c').read_text(encoding='utf-8')
-TEAM = (TOP / 'crates/argon2_c/specs/Team.antt').read_text(encoding='utf-8')
+SPECS = TOP / 'crates/argon2_c/specs'
+MODELS = {name: (SPECS / f'{name}.antt').read_text(encoding='utf-8') for name in ('Team', 'Threads')}
 COMPILER = ('gcc', '-std=c11', '-O1', '-g', '-fno-sanitize-recover=all', '-Wall', '-Wextra', '-Werror',
             '-I', TOP / 'bindings/c/include', '-I', TOP / 'bindings/c/src')
 SANITIZED = '-fsanitize=address,undefined'
@@ -35,24 +36,39 @@ RUNS = {(1, 1): (128, 192), (1, 2): (128, 192), (1, 3): (128, 192),
 # By each fault's name: a piece of the driver, and what takes its place. @ separates the lines of a piece.
 FAULTS = {name: [piece.replace('@', '\n') for piece in pieces] for name, *pieces in rows(HERE / 'faults.txt')}
 assert len(FAULTS) == 42
-# By move, a piece of the model, and one with which the model allows the move less often.
+# By model and move, a piece of the model, and one with which the model allows the move less often.
 NARROWER = {
-    'Wakes': ('s.woken j ≤ s.step', 's.woken j < s.step'),
-    'Enters': ('s.entered j < s.woken j', 's.entered j + 1 < s.woken j'),
-    'Claims': ('pub free : s.state worker ≡ 2 * step', 'pub free : s.state worker + 1 ≡ 2 * step'),
-    'Writes': ('pub can : CanEnd w s step worker', 'pub can : CanClaim w s step worker'),
-    'Completes': ('w.worker l ≡ worker → w.Fills', 'w.worker l ≤ worker → w.Fills'),
-    'Fails': ('code ≢ 0', 'code ≡ 0'),
-    'Advances': ('pub more : s.step < w.steps', 'pub more : s.step + 1 < w.steps'),
-    'Stops': ('(s.step ≡ w.steps) ⊎ AreThrough w s', 's.step ≡ w.steps'),
+    ('Team', 'Wakes'): ('s.woken j ≤ s.step', 's.woken j < s.step'),
+    ('Team', 'Enters'): ('s.entered j < s.woken j', 's.entered j + 1 < s.woken j'),
+    ('Team', 'Claims'): ('pub free : s.state worker ≡ 2 * step', 'pub free : s.state worker + 1 ≡ 2 * step'),
+    ('Team', 'Writes'): ('pub can : CanEnd w s step worker', 'pub can : CanClaim w s step worker'),
+    ('Team', 'Completes'): ('w.worker l ≡ worker → w.Fills', 'w.worker l ≤ worker → w.Fills'),
+    ('Team', 'Fails'): ('code ≢ 0', 'code ≡ 0'),
+    ('Team', 'Advances'): ('pub more : s.step < w.steps', 'pub more : s.step + 1 < w.steps'),
+    ('Team', 'Stops'): ('(s.step ≡ w.steps) ⊎ AreThrough w s', 's.step ≡ w.steps'),
+    ('Threads', 'Wakes'): ('s.place 0 ≡ Waking k) × (k ≤', 's.place 0 ≡ Waking k) × (k <'),
+    ('Threads', 'Begins'): ('s.place 0 ≡ Waking (suc members)', 's.place 0 ≡ Waking members'),
+    ('Threads', 'Claims'): ('(n < most w members is_long j)', '(suc n < most w members is_long j)'),
+    ('Threads', 'Leaves'): ('(most w members is_long j ≤ n) ⊎', '(most w members is_long j ≤ n) ×'),
+    ('Threads', 'Writes'): ('(l : ℕ) → w.worker l ≢ part', '(l : ℕ) → w.worker l ≢ suc part'),
+    ('Threads', 'Finishes'): ('w.worker l ≡ part → w.Fills', 'w.worker l ≤ part → w.Fills'),
+    ('Threads', 'Tells'): ('s.place j ≡ Telling (suc n)', 's.place j ≡ Telling (suc (suc n))'),
+    ('Threads', 'Waits'): ('s.place j ≡ Telling 0', 's.place j ≡ Telling 1'),
+    ('Threads', 'Awakes'): ('(0 < s.wakes j)', '(1 < s.wakes j)'),
+    ('Threads', 'Enters'): ('s.team.is_over ≡ false', 's.team.is_over ≡ true'),
+    ('Threads', 'Exits'): ('s.team.is_over ≡ true', 's.team.is_over ≡ false'),
+    ('Threads', 'Counts'): ('(n < w.tasks) × (0 < s.wakes 0)', '(suc n < w.tasks) × (0 < s.wakes 0)'),
+    ('Threads', 'Advances'): ('s.team.code i ≡ 0)', 's.team.code i ≡ 1)'),
+    ('Threads', 'Stops'): ('(s.place 0 ≡ Counting w.tasks) ⊎ (s.place 0 ≡ Left)', 's.place 0 ≡ Left'),
+    ('Threads', 'Dismisses'): ('s.place 0 ≡ Ending k) × (k ≤', 's.place 0 ≡ Ending k) × (k <'),
+    ('Threads', 'Returns'): ('s.place 0 ≡ Ending (suc members)', 's.place 0 ≡ Ending members'),
 }
 
 
-def moves_of(spec):
+def moves_of(model):
     """The names of the moves of a model, by its definition."""
-    text = (TOP / f'crates/argon2_c/specs/{spec}.antt').read_text(encoding='utf-8')
-    moves = re.search(r'^pub data Move .*\n((?: .*\n)+)', text, re.MULTILINE)[1]
-    return re.findall(r'^ +([A-Z]\w*) :', moves, re.MULTILINE)
+    data = re.search(r'^pub data Move .*\n((?: .*\n)+)', MODELS[model], re.MULTILINE)[1]
+    return re.findall(r'^ +([A-Z]\w*) :', data, re.MULTILINE)
 
 
 def compiled(source, made, *flags):
@@ -62,21 +78,24 @@ def compiled(source, made, *flags):
 
 @pytest.fixture(scope='module')
 def program_over(tmp_path_factory):
-    """A function that builds the program over a driver and a model with some texts, and returns the program's path."""
+    """A function that builds the program over a driver and models with some texts, and returns the program's path."""
     accesses = compiled(HERE / 'accesses.c', tmp_path_factory.mktemp('made') / 'accesses.o', SANITIZED)
 
     @functools.cache
-    def exploring(team):
+    def watching(source, model, text):
         folder = tmp_path_factory.mktemp('made')
-        (folder / 'guards.h').write_text(guards.guards(team), encoding='utf-8')
-        return compiled(HERE / 'explore_schedules.c', folder / 'explore_schedules.o', SANITIZED, '-I', folder)
+        (folder / f'{model.lower()}_moves.h').write_text(moves.moves(text), encoding='utf-8')
+        return compiled(HERE / f'{source}.c', folder / f'{source}.o', SANITIZED, '-I', folder)
 
-    def over(text, team=TEAM):
+    def over(text, **changed):
+        models = {**MODELS, **changed}
         made = tmp_path_factory.mktemp('made') / 'driver'
         source = made.with_suffix('.c')
         source.write_text(text, encoding='utf-8')
         driver = compiled(source, made.with_suffix('.o'), *WATCHED)
-        subprocess.run([*COMPILER, SANITIZED, exploring(team), accesses, driver, *WRAPPED, '-o', made], check=True)
+        watchers = [watching(source, model, models[model])
+                    for source, model in (('explore_schedules', 'Team'), ('places', 'Threads'))]
+        subprocess.run([*COMPILER, SANITIZED, *watchers, accesses, driver, *WRAPPED, '-o', made], check=True)
         return made
     return over
 
@@ -109,15 +128,14 @@ def test_nothing_goes_wrong(came, case):
     assert (status, said.splitlines()[0]) == (0, f'{RUNS[case[:2]][case[2] - 1]} runs')
 
 
-def test_each_move_of_the_model_is_made(came):
-    made = dict(line.split() for line in came((2, 2, 1))[1].splitlines()[1:])
-    assert list(made) == moves_of('Team') and '0' not in made.values()
+def test_each_move_of_the_models_is_made(came):
+    made = [line.split() for line in came((2, 2, 1))[1].splitlines()[1:]]
+    assert [(model, move) for model, move, count in made if count != '0'] == list(NARROWER)
 
 
 def test_the_driver_names_each_move_of_the_models():
     named = re.findall(r'\bMoves: ([A-Z]\w+(?:, [A-Z]\w+)*)\. \*/', DRIVER)
-    moves = set(moves_of('Team')) | set(moves_of('Threads'))
-    assert sorted(', '.join(named).split(', ')) == sorted(moves)
+    assert sorted(', '.join(named).split(', ')) == sorted({move for model in MODELS for move in moves_of(model)})
 
 
 @pytest.mark.parametrize('name', FAULTS)
@@ -129,14 +147,16 @@ def test_each_fault_is_found(found, name):
     assert not is_named or said.startswith(f'violated: {violated};'), said
 
 
-@pytest.mark.parametrize('move', NARROWER)
-def test_a_narrower_model_is_noticed(program_over, move):
-    """The guards are those of Team.antt: if it allows a move less often, some run makes a move that it forbids."""
-    assert TEAM.count(NARROWER[move][0]) == 1, 'it cannot be narrowed'
-    _, said = said_by(program_over(DRIVER, TEAM.replace(*NARROWER[move])), (2, 2, 1))
+@pytest.mark.parametrize(('model', 'move'), NARROWER)
+def test_a_narrower_model_is_noticed(program_over, model, move):
+    """What allows a move is read from the model: if it allows the move less often, some run makes it against that."""
+    piece, narrower = NARROWER[model, move]
+    assert MODELS[model].count(piece) == 1, 'it cannot be narrowed'
+    _, said = said_by(program_over(DRIVER, **{model: MODELS[model].replace(piece, narrower)}), (2, 2, 1))
     assert said.startswith(f'violated: {move};'), said
 
 
-def test_each_move_has_a_guard():
-    found = re.findall(r'bool can_(\w+)\(', guards.guards(TEAM))
-    assert found == moves_of('Team') == list(NARROWER)
+@pytest.mark.parametrize('model', MODELS)
+def test_each_move_has_a_guard(model):
+    found = re.findall(r'bool can_(\w+)\(', moves.moves(MODELS[model]))
+    assert found == moves_of(model) == [move for of, move in NARROWER if of == model]

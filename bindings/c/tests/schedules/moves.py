@@ -1,22 +1,34 @@
-"""Writes the guards of the model's moves (crates/argon2_c/specs/Team.antt) in C, for explore_schedules.c: a function
-`can_MOVE` for each move, which returns whether the model allows it.
+"""Writes the moves of a model (Team.antt or Threads.antt of crates/argon2_c/specs) in C, for explore_schedules.c and
+places.c: for each move a function `can_MOVE`, which returns whether the model allows it, and for Threads.antt also a
+function `after_MOVE`, which changes the places and wakes.
 
 A fill of a segment is there what the exploration sees of it: the proved call was made in this step for this lane. Which
-blocks a call is passed is checked elsewhere in explore_schedules.c, so clauses on the contents of memory are true here.
+blocks a call is passed is checked elsewhere in explore_schedules.c. So a memory is a number here: 0 is the present one,
+and n + 1 differs from it in the segment of lane n.
 """
 
 import re
 
 TOKEN = re.compile(r'[()→×⊎≡≢≤<+*:]|[^\s()]+')
 RELATIONS = {'≡': '==', '≢': '!=', '<': '<', '≤': '<='}
-# What the fields of the state and of the work are in explore_schedules.c. {0} is the first argument.
+# What the fields of the state and of the work are in C. {0} is the first argument.
+TEAM = {
+    'step': 'model.step', 'is_over': 'model.is_over', 'woken': 'model.woken[{0}]', 'entered': 'model.entered[{0}]',
+    'state': 'model.state[{0}]', 'code': 'model.call->workers[{0}].code', 'memory': '0', 'claimed': '0',
+}
+# The places of Threads.antt that have numbers, and how many.
+PLACES = {'Waking': 1, 'Taking': 2, 'Working': 2, 'Telling': 1, 'Waiting': 0, 'Woken': 0, 'Counting': 1, 'Left': 0,
+          'Ending': 1, 'Ended': 0}
 NAMES = {
-    's.step': 'model.step', 's.is_over': 'model.is_over', 's.woken': 'model.woken[{0}]',
-    's.entered': 'model.entered[{0}]', 's.state': 'model.state[{0}]', 's.code': 'model.call->workers[{0}].code',
-    's.memory': '0', 's.claimed': '0', 'w.segment': '0', 'w.Keeps': 'true',
+    **{f's.{name}': field for name, field in TEAM.items()}, **{f's.team.{name}': field for name, field in TEAM.items()},
+    **{name: f'NUMBER({", ".join([name, "{0}", "{1}"][:1 + many] + ["0"] * (2 - many))})'
+       for name, many in PLACES.items()},
+    's.place': 'model.place[{0}]', 's.wakes': 'model.wakes[{0}]', 'members': 'model.members',
+    'is_long': 'model.is_long', 'w.segment': '({2} == {1} + 1)', 'w.Keeps': 'true',
     'w.Fills': '(model.written[{1}] == {0} + 1)', 'w.worker': '({0} % model.call->tasks)',
-    'w.tasks': 'model.call->tasks', 'w.lanes': 'asked.lanes', 'w.steps': '(4 * (uint64_t)asked.passes + 1)',
-    'suc': '({0} + 1)', 'true': 'true', 'false': 'false',
+    'w.tasks': 'model.call->tasks', 'w.lanes': 'model.call->job.lanes',
+    'w.steps': '(4 * (uint64_t)model.call->job.passes + 1)', 'suc': '({0} + 1)', 'true': 'true', 'false': 'false',
+    'cond': '({0} ? {1} : {2})', 'eqb': '({0} == {1})', 'ltb': '({0} < {1})',
 }
 # Workers, threads and lanes are numbers below MOST_THREADS.
 ALL = '({{ bool all = true; for (uint64_t {0} = 0; {0} < MOST_THREADS; {0}++) all = all && {1}; all; }})'
@@ -49,13 +61,14 @@ class Reader:
 
     def joined(self, level):
         """Reads what operators of this level join: ⊎, ×, relations, +, and then *."""
-        levels = {'⊎': '||'}, {'×': '&&'}, RELATIONS, {'+': '+'}, {'*': '*'}
+        levels = {'⊎': '||'}, {'×': '&&'}, RELATIONS, {'+': '+', '-': '-'}, {'*': '*'}
         if level == len(levels):
             return self.applied()
         found = self.joined(level + 1)
         while self.next_is(*levels[level]):
-            sign = levels[level][self.tokens[0]]
-            found = f'({found} {sign} {self.after(lambda: self.joined(level + 1))})'
+            sign, other = levels[level][self.tokens[0]], self.after(lambda: self.joined(level + 1))
+            # (natural numbers end at 0)
+            found = f'({found} > {other} ? {found} - {other} : 0)' if sign == '-' else f'({found} {sign} {other})'
         return found
 
     def applied(self):
@@ -90,12 +103,35 @@ def definitions(text):
     return found
 
 
-def guards(text):
+def cases(name, text):
+    """The move, its numbers and the body of each line that defines this function of a state and a move."""
+    found = re.findall(rf'^{name} w (?:members is_long )?s \(?(\w+)([^=)]*)\)? = (.*)$', text, re.M)
+    return [(move, parameters.split(), body) for move, parameters, body in found]
+
+
+def function(kind, name, numbers, body):
+    takes = ', '.join(f'uint64_t {number}' for number in numbers) or 'void'
+    return f'static inline {kind} {name}({takes})\n{{\n    {body};\n}}\n'
+
+
+def change(body, known, numbers):
+    """What a move changes of the places and wakes: a call in C, or nothing."""
+    found = re.search(r'(goes|wakes_for|waits_for) w members is_long s (.*)', body)
+    if not found:
+        return ''
+    reader, passed = Reader(found[2], known, {name: name for name in numbers}), []
+    while reader.tokens and not reader.next_is(')'):
+        passed.append(reader.atom())
+    return f'{found[1]}({", ".join(passed)})'
+
+
+def moves(text):
     """The functions in C."""
-    known, lines = definitions(text), []
-    for move, parameters, body in re.findall(r'^Can w s \(?(\w+)([^=)]*)\)? = (.*)$', text, re.M):
-        numbers = [name for name in parameters.split() if name != 'memory']
-        takes = ', '.join(f'uint64_t {name}' for name in numbers) or 'void'
+    text = re.sub(r'\n {4,}', ' ', text)  # (a line that is indented further continues the one before)
+    known, functions = definitions(text), ['#pragma GCC diagnostic ignored "-Wunused-parameter"']
+    for move, numbers, body in cases('Can', text):
         guard = Reader(body, known, {name: name for name in numbers}).implied()
-        lines.append(f'static inline bool can_{move}({takes})\n{{\n    return {guard};\n}}\n')
-    return '\n'.join(lines)
+        functions.append(function('bool', f'can_{move}', numbers, f'return {guard}'))
+    for move, numbers, body in cases('after', text) if 'goes' in known else ():
+        functions.append(function('void', f'after_{move}', numbers, change(body, known, numbers)))
+    return '\n'.join(functions)
