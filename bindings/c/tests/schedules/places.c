@@ -8,10 +8,11 @@ enum name { Waking, Taking, Working, Telling, Waiting, Woken, Counting, Left, En
 /* A place with its numbers. */
 #define NUMBER(name, first, second) (((uint64_t)(name) << 32) + ((uint64_t)(first) << 16) + (uint64_t)(second))
 
+/* clang-format off */
 #define MOVES(X) \
-    X(Wakes) \
-    X(Begins) X(Claims) X(Leaves) X(Writes) X(Finishes) X(Tells) X(Waits) X(Awakes) X(Enters) X(Exits) X(Counts) \
-        X(Advances) X(Stops) X(Dismisses) X(Returns)
+    X(Wakes) X(Begins) X(Claims) X(Leaves) X(Writes) X(Finishes) X(Tells) X(Waits) X(Awakes) X(Enters) X(Exits) \
+    X(Counts) X(Advances) X(Stops) X(Dismisses) X(Returns)
+/* clang-format on */
 #define VALUE(move) Makes##move,
 #define TEXT(move) #move,
 
