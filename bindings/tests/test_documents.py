@@ -9,7 +9,7 @@ import pytest
 from commands import COSTLY, STORED, TOOL, numbers, piped
 from running import CC, MACHINE, TOP, first_lines, flags_of, needs, project, run, start
 
-SERVICE, EXAMPLES = TOP / "bindings/tests/service", TOP / "docs/examples"
+BINDINGS, EXAMPLES = TOP / "bindings", TOP / "docs/examples"
 # A bcrypt hash, and an Argon2 hash with other settings, are renewed only at a login with the right password.
 PHP = """<?php
 function log_in($stored, $password) {
@@ -104,20 +104,20 @@ def serves(*words, **named):
 
 def test_the_service_in_c(built, tmp_path):
     run(CC, "-std=gnu11", "-Wall", "-Wextra", "-Werror", "-O1", "-I", "bindings/c/include", "-I", EXAMPLES,
-        SERVICE / "service.c", built / MACHINE / "libproved_argon2.a", "-pthread", "-o", tmp_path / "service")
+        BINDINGS / "c/tests/service.c", built / MACHINE / "libproved_argon2.a", "-pthread", "-o", tmp_path / "service")
     serves(tmp_path / "service")
 
 
 @needs("cargo")
 def test_the_service_in_rust(built, cargo, tmp_path):
-    folder = project(tmp_path / "service", (SERVICE / "service.rs").read_text())
+    folder = project(tmp_path / "service", (BINDINGS / "rust/tests/programs/service.rs").read_text())
     shutil.copy(EXAMPLES / "log_in.rs", folder / "src")
     serves("cargo", "run", "--offline", "--quiet", cwd=folder, env={
         **cargo, "PATH": f"/usr/bin:{os.environ['PATH']}", "PROVED_ARGON2_LIB_DIR": built / MACHINE})
 
 
 def test_the_service_in_python(installed):
-    serves("python3", "-B", SERVICE / "service.py", env={
+    serves("python3", "-B", BINDINGS / "python/tests/service.py", env={
         "PEPPER": "pepper", "PYTHONPATH": f"{TOP}/bindings/python/src:{EXAMPLES}",
         "PROVED_ARGON2_LIBRARY": installed / "lib/libproved_argon2.so.1"})
 

@@ -6,7 +6,7 @@ import shutil
 
 from running import TOP, VERSION, built, needs, project, refuses, run, start, with_crate
 
-BINDINGS, TESTS, MADE = TOP / 'bindings', TOP / 'bindings/tests', built() / 'x86_64'
+BINDINGS, MADE = TOP / 'bindings', built() / 'x86_64'
 ARCHIVE, SHARED = MADE / 'libproved_argon2.a', MADE / f'libproved_argon2.so.{VERSION}'
 CC = *'musl-gcc -std=c11 -D_GNU_SOURCE -O2 -Wall -Wextra -Werror -I'.split(), TOP / 'bindings/c/include'
 ENCODED = '$argon2id$v=19$m=256,t=2,p=2$c29tZXNhbHQ$bQk8UB/VmZZF4Oo79iDXuL5/0ttZwg2f/5U52iv1cDc'
@@ -66,13 +66,14 @@ def loaded_by_musl(program, *words):
 
 
 def test_loads_the_shared_object_of_the_wheel(tmp_path):
-    program = loaded_by_musl(tmp_path / 'loads', TESTS / 'loads.c')
+    program = loaded_by_musl(tmp_path / 'loads', BINDINGS / 'tests/loads.c')
     assert run(program, SHARED).startswith(f'0 {ENCODED}')
 
 
 def test_loads_the_addon(tmp_path):
     """A stand-in has those parts of Node that hashing needs."""
-    program = loaded_by_musl(tmp_path / 'addon', '-I', BINDINGS / 'javascript/addon', '-rdynamic', TESTS / 'addon.c')
+    folder = BINDINGS / 'javascript'
+    program = loaded_by_musl(tmp_path / 'addon', '-I', folder / 'addon', '-rdynamic', folder / 'tests/addon.c')
     assert run(program, MADE / 'proved_argon2.node').startswith(f'0 0 8 {TAG}')
 
 
@@ -114,7 +115,7 @@ def test_crate_passes_its_tests(cargo, tmp_path):
 @needs('cargo')
 def test_crate_clears_what_it_keeps(cargo, tmp_path):
     """(between calls, by one thread and by several: the program succeeds if all its checks do)"""
-    program = (TESTS / 'memory.rs').read_text(encoding='utf-8')
+    program = (BINDINGS / 'rust/tests/programs/memory.rs').read_text(encoding='utf-8')
     folder = project(tmp_path / 'keeping', program, with_crate('password-hash'))
     with_std(cargo, folder, tmp_path,
              ['link-arg=-Wl,--wrap=proved_argon2_memory_new,--wrap=pthread_create'], 'run', '--quiet')

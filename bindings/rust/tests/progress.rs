@@ -1,4 +1,4 @@
-//! The progress callback of a `Run`: when it is called, and how it stops a call. bindings/tests/test_rust.py tests
+//! The progress callback of a `Run`: when it is called, and how it stops a call. test_rust.py tests
 //! which calls pass it on.
 
 use proved_argon2::{hash_raw, Config, Error, Memory, Run, ThreadMode};

@@ -8,7 +8,7 @@ import pytest
 from running import (
     CC, CODES, HEADER, MACHINE, NUMBERS, TOP, built, first_lines, in_namespace, needs, run, start)
 
-JAVA, TESTS = TOP / "bindings/java", TOP / "bindings/tests"
+JAVA, SHARED = TOP / "bindings/java", TOP / "bindings/tests"
 LIBRARIES = [f"/usr/share/java/{name}.jar" for name in ("junit-platform-console-standalone", "bcprov")]
 LINT = "-Xlint:all,-path", "-Werror"
 NEWER = "trixie"  # Debian's release with Java 21 and 25
@@ -96,7 +96,7 @@ def jar(tmp_path_factory):
 def classes(jar):
     """The classes of the tests, which each Java runs."""
     folder = jar.parent / "classes"
-    run("javac", "--release", "17", *LINT, "-cp", path_of(jar), "-d", folder, *JAVA.rglob("tests/**/*.java"))
+    run("javac", "--release", "17", *LINT, "-cp", path_of(jar), "-d", folder, *JAVA.rglob("tests/proved/**/*.java"))
     return folder
 
 
@@ -108,8 +108,7 @@ def words_of(jar, classes, drawn, *words):
     """The command of JUnit. (With this much memory the collector copies no password while tests search for copies.)"""
     temporary = jar.parent / "temporary"
     temporary.mkdir(exist_ok=True)
-    values = {"vectors": TOP / "bindings/vectors", "tables": TESTS, "random": drawn["RANDOM_HASHES"],
-              "java.io.tmpdir": temporary}
+    values = {"vectors": TOP / "bindings/vectors", "random": drawn["RANDOM_HASHES"], "java.io.tmpdir": temporary}
     return ["-Xcheck:jni", "-XX:+UseSerialGC", "-Xmx128m", "-Xmn64m",
             *(f"-D{name}={value}" for name, value in values.items()), "-cp", path_of(jar, classes),
             "org.junit.platform.console.ConsoleLauncher", "--disable-banner", "--scan-classpath", classes, *words]
@@ -133,7 +132,8 @@ def system(tmp_path_factory):
     """Another system, with Java 21 and 25."""
     folder, packages = tmp_path_factory.mktemp(NEWER), "openjdk-21-jre-headless,openjdk-25-jre-headless"
     script = 'source "$0" && mmdebstrap --quiet --variant=apt "$@" "$(mirror_of debian)"'
-    if start("bash", "-c", script, TESTS / "fetching.bash", f"--include={packages}", NEWER, folder / "root").returncode:
+    words = SHARED / "fetching.bash", f"--include={packages}", NEWER, folder / "root"
+    if start("bash", "-c", script, *words).returncode:
         pytest.skip("no mirror is reached, or there is no right to make a system")
     return folder / "root"
 
@@ -151,7 +151,7 @@ def test_its_own_tests_pass_in_newer_java(jar, classes, drawn, system, version):
 def test_its_own_tests_pass_on_arm64(classes, drawn, tmp_path):
     """Except for one that asks for 2 TiB: qemu would need memory for each page."""
     jar, root = tmp_path / "proved-argon2.jar", TOP / "out/aarch64/root"
-    made = start(TESTS / "aarch64_root", root)
+    made = start(SHARED / "aarch64_root", root)
     if made.returncode == 77:
         pytest.skip("Debian's packages for ARM64 cannot be had")
     assert made.returncode == 0, made.stderr
@@ -172,7 +172,7 @@ def test_each_number_is_a_value_or_its_error(jar, classes, drawn, tmp_path):
     (tmp_path / "own.c").write_text(CODES_OF_JAVA)
     include = [f"-I{folder}" for folder in headers()]
     run(CC, "-shared", "-fPIC", "-Wall", "-Wextra", "-Werror", *include, "-I", TOP / "bindings/c/include",
-        TESTS / "codes.c", tmp_path / "own.c", JAVA / "native/proved_argon2_java.c", "-o", tmp_path / "codes.so")
+        SHARED / "codes.c", tmp_path / "own.c", JAVA / "native/proved_argon2_java.c", "-o", tmp_path / "codes.so")
     named = {"proved.argon2.library": tmp_path / "codes.so", "numbers": " ".join(map(str, NUMBERS)),
              "names": " ".join(f"{number}={name}" for name, number in HEADER.items())}
     for name in ("hash_raw", "hash_encoded", "verify_encoded_within", "needs_rehash"):
@@ -221,7 +221,7 @@ def test_an_encoder_for_spring_is_one_line(jar, tmp_path):
 
 def test_the_service(jar, tmp_path):
     """More clients log in at once than there are places, and some of them leave."""
-    run("javac", *LINT, "-cp", jar, "-d", tmp_path, TOP / "docs/examples/LogIn.java", TESTS / "service/Service.java")
+    run("javac", *LINT, "-cp", jar, "-d", tmp_path, TOP / "docs/examples/LogIn.java", JAVA / "tests/Service.java")
     done = start("java", "-Xmx64m", "-cp", f"{jar}:{tmp_path}", "Service", env={"PEPPER": "pepper"}, timeout=300)
     assert done.returncode == 0, done.stderr[-9000:]
     assert "logged in: root" in done.stderr and not re.search("^logged in: root", done.stderr, re.M)
@@ -237,7 +237,7 @@ def test_the_native_calls_hash_and_verify_where_no_java_runs(tmp_path, compiler,
     run(JAVA / "pack", jar, TOP / "release" / machine, env=DATED)
     with zipfile.ZipFile(jar) as packed:
         library = packed.extract(f"proved/argon2/native/{name}", tmp_path)
-    run(compiler, "-std=c11", "-Wall", "-Wextra", "-Werror", *include, TESTS / "native_calls.c", "-o", program)
+    run(compiler, "-std=c11", "-Wall", "-Wextra", "-Werror", *include, JAVA / "tests/native_calls.c", "-o", program)
     said = run(*words, program, library, env={"WINEDEBUG": "-all", "WINEPREFIX": tmp_path / "wine"})
     assert said.split() == ["right"]
 

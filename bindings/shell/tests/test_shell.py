@@ -96,7 +96,7 @@ def test_a_write_that_fails_once_has_status_4(in_c):
 
 def test_the_program_in_c_frees_no_block_with_the_password(in_c, tmp_path):
     """It moves a long password to larger blocks while it reads."""
-    watched = {**os.environ, "LD_PRELOAD": str(build_preloaded(ROOT / "bindings/tests/freed.c", tmp_path))}
+    watched = {**os.environ, "LD_PRELOAD": str(build_preloaded(SHELL / "tests/freed.c", tmp_path))}
     assert piped(["check", STORED], 4000 * b"correct horse", [in_c], env=watched)[:2] == (1, b"false\n")
 
 

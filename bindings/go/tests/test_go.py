@@ -10,7 +10,7 @@ import pytest
 from running import CC, CODES, HEADER, MACHINE, NUMBERS, TOP, VERSION, built, is_without_kernels
 from running import linked_without_kernels, needs, refuses, run, start
 
-MODULE, HERE = TOP / "bindings/go", TOP / "bindings/tests"
+MODULE, DATA = TOP / "bindings/go", TOP / "bindings/go/tests/testdata"
 NAME = re.search("^module (.*)$", (MODULE / "go.mod").read_text(), re.M)[1]
 PAGE = (TOP / "docs/GO.md").read_text()
 # Debian's source of x/crypto, and of what that imports.
@@ -142,7 +142,7 @@ def program(folder, module, *files, more=""):
 
 
 def test_the_sources_are_laid_out_and_each_exported_name_has_a_comment(module, env):
-    files = [*MODULE.glob("**/*.go"), *HERE.glob("**/*.go"), *(TOP / "docs/examples").glob("*.go")]
+    files = [*MODULE.glob("**/*.go"), *(TOP / "docs/examples").glob("*.go")]
     assert len(files) > 15 and run("gofmt", "-l", "-s", *files) == ""
     lines = [line for file in files for line in file.read_text().splitlines()]
     assert not [line for line in lines if len(line) > 120]
@@ -155,7 +155,7 @@ def test_the_sources_are_laid_out_and_each_exported_name_has_a_comment(module, e
 
 def test_cgo_and_unsafe_code_are_only_in_one_file():
     """(calls_go124.go has no code: it tells newer cgo how calls in calls.go behave)"""
-    files = [file for file in MODULE.rglob("*.go") if re.search('"(C|unsafe)"', file.read_text())]
+    files = [file for file in MODULE.glob("*.go") if re.search('"(C|unsafe)"', file.read_text())]
     assert {file.name for file in files} == {"calls.go", "calls_go124.go"}
     assert not re.search("^(?!//|package|import|$)", (MODULE / "calls_go124.go").read_text(), re.M)
 
@@ -211,9 +211,9 @@ VALUES = {"tag": "xxxxx", "text": 12 * "x", "true": "true", "false": "false"}
 def ask(env, tmp_path_factory):
     """A function that makes calls, and returns what each returned and what the library saw."""
     folder = tmp_path_factory.mktemp("codes")
-    run(CC, "-O1", "-I", TOP / "bindings/c/include", "-c", HERE / "codes.c", "-o", folder / "codes.o")
+    run(CC, "-O1", "-I", TOP / "bindings/c/include", "-c", TOP / "bindings/tests/codes.c", "-o", folder / "codes.o")
     run("ar", "rcs", folder / "codes.a", folder / "codes.o")
-    made = program(folder / "program", copy_module(folder, folder / "codes.a"), HERE / "codes.go")
+    made = program(folder / "program", copy_module(folder, folder / "codes.a"), DATA / "codes.go")
     run("go", "build", "-o", folder / "answers", cwd=made, env=env)
 
     def ask(calls):
@@ -297,14 +297,14 @@ def test_the_tests_of_x_crypto_pass(env, tmp_path):
 
 @needs_x_crypto
 def test_random_keys_are_those_of_x_crypto(module, env, tmp_path):
-    folder = program(tmp_path / "fuzz", module, HERE / "fuzz_test.go", more=x_crypto(tmp_path))
+    folder = program(tmp_path / "fuzz", module, DATA / "fuzz_test.go", more=x_crypto(tmp_path))
     run("go", "vet", ".", cwd=folder, env=env)
     assert "PASS" in run("go", "test", "-fuzz", ".", "-fuzztime", "10s", "-parallel", "2", cwd=folder, env=env)
 
 
 @pytest.mark.parametrize("words", [(), ("-race",)])
 def test_a_service_serves_more_logins_than_it_computes(module, env, tmp_path, words):
-    folder = program(tmp_path / "service", module, HERE / "service/service_test.go", TOP / "docs/examples/log_in.go")
+    folder = program(tmp_path / "service", module, DATA / "service_test.go", TOP / "docs/examples/log_in.go")
     (folder / "main.go").write_text("package main\n\nfunc main() {}\n")
     run("go", "vet", ".", cwd=folder, env=env)
     run("go", "test", "-count=1", *words, ".", cwd=folder, env=env)

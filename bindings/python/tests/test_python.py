@@ -8,7 +8,8 @@ import zipfile
 import pytest
 from running import CC, TOP, VERSION, built as built_part, fetch, needs, run, start
 
-PACKAGE, HERE, SONAME = TOP / "bindings/python", TOP / "bindings/tests", f"libproved_argon2.so.{VERSION.split('.')[0]}"
+PACKAGE, SONAME = TOP / "bindings/python", f"libproved_argon2.so.{VERSION.split('.')[0]}"
+TESTS = PACKAGE / "tests"
 PYTHON = sys.executable
 PIP = "-m", "pip", "install", "--no-build-isolation", "--no-index", "--no-deps"
 PYTEST = PYTHON, "-B", "-m", "pytest", "-q"
@@ -69,23 +70,24 @@ def test_the_package_s_own_tests_pass(with_library, drawn, tmp_path):
     """The tests with pwdlib are skipped if Debian's package cannot be fetched."""
     fetch("fetch_package", "python3-pwdlib", tmp_path)
     path = f"{with_library['PYTHONPATH']}:{tmp_path}/usr/lib/python3/dist-packages"
-    print(run(*PYTEST, "-W", "error", PACKAGE / "tests", env={**with_library, **drawn, "PYTHONPATH": path}))
+    words = "-W", "error", TESTS, "--ignore", __file__
+    print(run(*PYTEST, *words, env={**with_library, **drawn, "PYTHONPATH": path}))
 
 
 def compile_shared(source, made, *words):
     flags = "-Wall", "-Wextra", "-Werror", "-O1", "-D_GNU_SOURCE", "-fPIC", "-shared"
-    run(CC, *flags, *words, HERE / source, "-o", made)
+    run(CC, *flags, *words, source, "-o", made)
     return made
 
 
 def test_each_number_that_the_library_can_return(with_library, tmp_path):
-    library = compile_shared("codes.c", tmp_path / "codes.so", "-I", "bindings/c/include")
-    run(*PYTEST, "-W", "error", HERE / "codes.py", env={**with_library, "PROVED_ARGON2_LIBRARY": library})
+    library = compile_shared("bindings/tests/codes.c", tmp_path / "codes.so", "-I", "bindings/c/include")
+    run(*PYTEST, "-W", "error", TESTS / "codes.py", env={**with_library, "PROVED_ARGON2_LIBRARY": library})
 
 
 def test_a_verification_leaves_no_tag_in_the_vector_registers(with_library, tmp_path):
     """After a register was filled with the tag, the search finds both pieces."""
-    looker = compile_shared("registers.c", tmp_path / "registers.so")
+    looker = compile_shared(TESTS / "registers.c", tmp_path / "registers.so")
     assert re.match(r"0 2 \w", run(PYTHON, "-c", REGISTERS, looker, env=with_library))
 
 
@@ -94,7 +96,7 @@ def test_the_tests_of_argon2_cffi_pass_except_for_listed_ones(with_library, tmp_
     """The tests are unchanged, from Debian's newest source. argon2_cffi.py lists those that fail, with the reasons."""
     if not fetch("fetch_source", "python-argon2", tmp_path):
         pytest.skip("their source cannot be had")
-    path = f"{HERE}:{with_library['PYTHONPATH']}"
+    path = f"{TESTS}:{with_library['PYTHONPATH']}"
     words = "-p", "argon2_cffi", "-p", "no:cacheprovider", "tests"
     said = run(*PYTEST, *words, cwd=tmp_path, env={**with_library, "PYTHONPATH": path})
     assert re.search(r"^62 passed, 16 xfailed in ", said, re.M), said[-2000:]

@@ -1,6 +1,6 @@
 /* The threads of Node's addon, which is compiled into this program, where threads are denied, and its kept memory. In
  * place of Node's there is a loop for one thread of JavaScript. It prints each check that fails. */
-#include "../javascript/addon/addon.c"
+#include "../addon/addon.c"
 #include <stdio.h>
 #include <string.h>
 #include <unistd.h>

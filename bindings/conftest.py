@@ -1,9 +1,16 @@
-"""What is built, where it is installed, and what cargo and Node need."""
+"""What the tests of these folders share: where the modules are that they import, what is built, where it is installed,
+and what cargo and Node need."""
 import random
 import shutil
+import sys
+from pathlib import Path
 
 import pytest
-import running
+
+TOP = Path(__file__).resolve().parents[1]
+sys.path += [str(TOP / folder) for folder in (
+    "build", "crates/argon2_vectors", "bindings/c/tests", "bindings/shell/tests", "bindings/tests")]
+import running  # noqa: E402
 
 
 @pytest.fixture(scope="session")
@@ -44,7 +51,7 @@ def site(tmp_path_factory):
     packed, modules = folder / "package.tgz", folder / "node_modules"
     running.run("bindings/javascript/pack", packed, running.built("wasm32") / "wasm32",
                 running.built() / running.MACHINE, env={"SOURCE_DATE_EPOCH": 0})
-    for file in (running.TOP / "bindings/javascript/tests").iterdir():
+    for file in (TOP / "bindings/javascript/tests").glob("*.[cm][jt]s"):
         shutil.copy(file, folder)
     modules.mkdir()
     if shutil.which("npm"):

@@ -11,7 +11,7 @@ import pytest
 from running import CC, CODES, CRATES_OF_DEBIAN, HEADER, MACHINE, MEMORIES, NUMBERS, TOP, built as built_part
 from running import fetch, is_without_kernels, linked_without_kernels, needs, project, refuses, run, start, with_crate
 
-CRATE, HERE = TOP / "bindings/rust", TOP / "bindings/tests"
+CRATE, SOURCES = TOP / "bindings/rust", TOP / "bindings/rust/tests/programs"
 REGISTRY = pathlib.Path("/usr/share/cargo/registry")
 PAGE = (TOP / "docs/RUST.md").read_text()
 ITEM = re.compile(r'<a href="(enum|fn|struct|trait|type|constant|macro)\.[^"]*">([^<]*)</a>')
@@ -113,10 +113,10 @@ def ask(cargo, tmp_path_factory):
     """A function that makes calls over the library of codes.c, and returns what codes.rs prints. A call is its name,
     how it is made, and the numbers that the library returns."""
     folder = tmp_path_factory.mktemp("codes")
-    run(CC, "-Wall", "-Wextra", "-Werror", "-O1", "-I", TOP / "bindings/c/include", "-c", HERE / "codes.c",
-        "-o", folder / "codes.o")
+    run(CC, "-Wall", "-Wextra", "-Werror", "-O1", "-I", TOP / "bindings/c/include", "-c",
+        "bindings/tests/codes.c", "-o", folder / "codes.o")
     run("ar", "rcs", folder / "libproved_argon2.a", folder / "codes.o")
-    program = project(folder / "answers", (HERE / "codes.rs").read_text())
+    program = project(folder / "answers", (SOURCES / "codes.rs").read_text())
 
     def ask(calls):
         usual = {"check": 0, "then": 0, "read": 0, "memory": 0, "kib": 1024}
@@ -245,7 +245,7 @@ def test_a_program_succeeds(cargo, tmp_path, name):
         needs_crate("tokio")
     functions = re.findall(r"^```rust\n(.*?)^```", PAGE, re.M | re.S)[1:]
     assert len(functions) == 4
-    main = {"serde": SERDE, "page": OF_PAGE % "\n".join(functions)}.get(name) or (HERE / f"{name}.rs").read_text()
+    main = {"serde": SERDE, "page": OF_PAGE % "\n".join(functions)}.get(name) or (SOURCES / f"{name}.rs").read_text()
     folder = project(tmp_path / f"of_{name}", main, crates)
     run(*RUN, cwd=folder, env={**cargo, "RUSTFLAGS": f"{os.environ.get('RUSTFLAGS', '')} {flags}"})
 
@@ -267,7 +267,7 @@ def test_a_program_with_the_traits_of_password_hash_0_5_succeeds(cargo, tmp_path
     for name, crate in found.items():
         (tmp_path / "crates" / name).symlink_to(crate)
     (tmp_path / "config.toml").write_text(CRATES_OF_DEBIAN.replace(str(REGISTRY), str(tmp_path / "crates")))
-    folder = project(tmp_path / "of_0_5", (HERE / "traits.rs").read_text(), with_crate("password-hash"))
+    folder = project(tmp_path / "of_0_5", (SOURCES / "traits.rs").read_text(), with_crate("password-hash"))
     run(*RUN, cwd=folder, env={**cargo, "CARGO_HOME": tmp_path, "CARGO_TARGET_DIR": tmp_path / "target"})
     assert 'name = "password-hash"\nversion = "0.5.' in (folder / "Cargo.lock").read_text()
 
@@ -282,7 +282,7 @@ def test_a_program_with_the_traits_of_password_hash_0_6_succeeds(cargo, tmp_path
         pytest.skip("password-hash 0.6, or a compiler for it, cannot be had")
     (tmp_path / "config.toml").write_text(CRATES_OF_DEBIAN.replace("/usr", f"{tmp_path}/usr"))
     line = f'argon2 = {{ package = "proved-argon2-password-hash", path = "{CRATE}/password_hash" }}'
-    folder = project(tmp_path / "of_0_6", (HERE / "traits_0_6.rs").read_text(), line)
+    folder = project(tmp_path / "of_0_6", (SOURCES / "traits_0_6.rs").read_text(), line)
     named = {**cargo, "CARGO_HOME": tmp_path, "RUSTFLAGS": f"{os.environ.get('RUSTFLAGS', '')} -Dwarnings"}
     run(*RUN, cwd=folder, env=named)
     assert "1 passed" in run("cargo", "test", "--offline", "--doc", cwd=CRATE / "password_hash", env=named)
