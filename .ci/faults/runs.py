@@ -15,7 +15,7 @@ from pathlib import Path
 from typing import NamedTuple
 
 from argon2.low_level import Type, hash_secret
-from running import build_preloaded
+from running import ENVIRONMENT, build_preloaded
 from shared import TOP
 from toolchain import is_current
 
@@ -65,7 +65,7 @@ def run(words, is_over_faults=True, meanwhile=lambda process: None, input_bytes=
     """Runs a command with the password on its standard input, and kills it if it hangs. `meanwhile` is called with the
     running process; `how` is for subprocess, and the variables are for faults.c."""
     own = {'LD_PRELOAD': FAULTS} if is_over_faults else {}
-    env = {**os.environ, **own, **{name: str(value) for name, value in variables.items()}}
+    env = {**ENVIRONMENT, **own, **{name: str(value) for name, value in variables.items()}}
     pipes = dict.fromkeys(('stdin', 'stdout', 'stderr'), subprocess.PIPE)
     with subprocess.Popen(words, env=env, **pipes, **(how or {})) as process, ThreadPoolExecutor(1) as beside:
         seen = beside.submit(meanwhile, process)

@@ -13,7 +13,9 @@ import pytest
 
 TOP = pathlib.Path(__file__).resolve().parents[2]
 MACHINE = os.uname().machine
-CC = os.environ.get("CC", "cc")
+# (once, since pytest changes its variables while threads start programs)
+ENVIRONMENT = {**os.environ}
+CC = ENVIRONMENT.get("CC", "cc")
 sys.path.append(str(TOP / "build"))
 from machines import machines  # noqa: E402
 
@@ -61,7 +63,7 @@ def needs(*programs):
 def start(*words, env=(), cwd=TOP, timeout=2400, **named):
     """A command that has ended, with its output."""
     named = {"stdin": None if "input" in named else subprocess.DEVNULL, "capture_output": True, "text": True, **named}
-    without = {name: value for name, value in {**os.environ, **dict(env)}.items() if value is not None}
+    without = {name: value for name, value in {**ENVIRONMENT, **dict(env)}.items() if value is not None}
     return subprocess.run([*map(str, words)], env={name: str(value) for name, value in without.items()}, cwd=cwd,
                           timeout=timeout, **named)
 

@@ -10,7 +10,6 @@ its driver; otherwise this test shows nothing. calls.c makes the calls, which ca
 case may report.
 """
 
-import os
 import re
 import subprocess
 from collections import defaultdict
@@ -22,12 +21,10 @@ import pytest
 from cases import CALLS
 from machines import machines
 from plant_leak import DRIVER, compiled, library
-from running import ahead
+from running import ENVIRONMENT, ahead
 from running import rows as rows_of
 
 SECONDS = 3600
-# (once, since pytest changes its variables while threads start programs)
-ENVIRONMENT = {**os.environ}
 # The builds, each with how many places find or read the block that is referred to, and how many find and prefetch it.
 READS = dict(zip(machines()['x86_64'].proved, ((10, 2), (9, 2)), strict=True))
 # Memcheck does not see a prefetch. So the function that prefetches reads, as that does which is proved.
