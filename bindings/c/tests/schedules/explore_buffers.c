@@ -1,6 +1,6 @@
 /* Runs callers of kept buffers (proved_argon2_buffers.c) in every way in which they can go, each way in its own run.
  * This file replaces the hashes, the system and the clock: it chooses what happens, and watches which buffers the
- * callers use. It tries each choice in all ways, depth first.
+ * callers use. It tries each choice in all ways (choices.c).
  *
  *     explore_buffers CALLERS CALLS MOST SWITCHES    prints how many runs there were, or the first fault
  *
@@ -9,12 +9,13 @@
  * denied, the time may pass after which idle buffers are freed, and a hash may fork: its process then goes on as the
  * child, which has no other caller. */
 #include "accesses.h"
+#include "choices.h"
 #include "driver.h"
 #include <stdio.h>
 #include <stdlib.h>
 #include <ucontext.h>
 
-enum { MOST_CALLERS = 3, MOST_CHOICES = 256, MOST_BUFFERS = 64, KIB = 1024 };
+enum { MOST_CALLERS = 3, MOST_BUFFERS = 64, KIB = 1024 };
 #define MILLISECOND UINT64_C(1000000) /* in nanoseconds */
 #define IDLE (10000 * MILLISECOND)
 #define STEP (MILLISECOND * 3 / 2) /* from one look at the clock to the next */
@@ -23,43 +24,10 @@ static struct {
     uint32_t callers, calls, most, switches;
 } asked;
 
-/* ---- choices */
-
-static struct {
-    unsigned way, ways;
-} choices[MOST_CHOICES];
-static size_t depth, known;
-
-/* Chooses one of `ways` ways: the first and, in later runs, each of the others. */
-static unsigned choose(unsigned ways)
-{
-    if (depth == known) {
-        choices[known].way = 0;
-        choices[known++].ways = ways;
-    }
-    return choices[depth++].way;
-}
-
-/* Goes to the next way of the last choice that has one, if any has. */
-static bool has_another_run(void)
-{
-    known = depth;
-    depth = 0;
-    while (known > 0 && ++choices[known - 1].way == choices[known - 1].ways) {
-        known--;
-    }
-    return known > 0;
-}
-
 static void must(bool holds, const char *what)
 {
     if (!holds) {
-        printf("violated: %s, at", what);
-        for (size_t i = 0; i < depth; i++) {
-            printf(" %u", choices[i].way);
-        }
-        puts("");
-        exit(1);
+        report(what);
     }
 }
 

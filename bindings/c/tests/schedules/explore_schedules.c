@@ -1,7 +1,6 @@
 /* Runs a call of the compiled driver in every way in which it can go, each way in its own run. This
  * file replaces the system (platform.h), the heap, the proved calls, and the caller's progress callback: it
- * chooses what happens, and watches what the driver does and which memory it accesses (accesses.c). It tries each
- * choice in all ways, depth first.
+ * chooses what happens (choices.c), and watches what the driver does and which memory it accesses (accesses.c).
  *
  *     explore_schedules LANES THREADS PASSES SWITCHES    prints how many runs there were, or the first fault with its
  *     choices
@@ -17,6 +16,7 @@
 #define PROVED_ARGON2_NULL_H /* (the driver's calls are those here) */
 #define PROVED_ARGON2_PASSWORD_H
 #include "accesses.h"
+#include "choices.h"
 #include "driver.h"
 #include "places.h"
 #include <errno.h>
@@ -27,7 +27,7 @@
 #include <string.h>
 #include <ucontext.h>
 
-enum { MOST_CHOICES = 512, MOST_TAKEN = 4, TAG = 4, ERROR_BEFORE = 77, KIB = 1024, KINDS = 32 };
+enum { MOST_TAKEN = 4, TAG = 4, ERROR_BEFORE = 77, KIB = 1024, KINDS = 32 };
 enum { LONG = 4 * KIB }; /* blocks of a lane in a slice, which only its own thread takes */
 
 /* ---- what is asked */
@@ -37,45 +37,14 @@ static struct {
     bool is_large, is_callers, is_verdict, has_progress, is_long;
 } asked;
 
-/* ---- choices */
-
-static struct {
-    unsigned way, ways;
-} choices[MOST_CHOICES];
-static size_t depth, known;
-
-/* Chooses one of `ways` ways: the first and, in later runs, each of the others. */
-static unsigned choose(unsigned ways)
-{
-    if (depth == known) {
-        choices[known].way = 0;
-        choices[known++].ways = ways;
-    }
-    return choices[depth++].way;
-}
-
-/* Goes to the next way of the last choice that has one, if any has. */
-static bool has_another_run(void)
-{
-    known = depth;
-    depth = 0;
-    while (known > 0 && ++choices[known - 1].way == choices[known - 1].ways) {
-        known--;
-    }
-    return known > 0;
-}
-
 void must(bool holds, const char *what)
 {
+    char violated[200];
     if (!holds) {
-        printf("violated: %s;%s%s%s%s%s, at", what, asked.is_large ? " large" : "",
+        snprintf(violated, sizeof violated, "%s;%s%s%s%s%s", what, asked.is_large ? " large" : "",
             asked.is_callers ? " caller's memory" : "", asked.is_verdict ? " verdict" : "",
             asked.has_progress ? " progress" : "", asked.is_long ? " long" : "");
-        for (size_t i = 0; i < depth; i++) {
-            printf(" %u", choices[i].way);
-        }
-        puts("");
-        exit(1);
+        report(violated);
     }
 }
 

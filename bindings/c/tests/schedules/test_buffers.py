@@ -52,7 +52,8 @@ def program_over(text, folder):
     """The path of a program that explores this text."""
     made = []
     (folder / 'buffers.c').write_text(text, encoding='utf-8')
-    for source, flags in ((HERE / 'explore_buffers.c', ()), (HERE / 'accesses.c', ()), (folder / 'buffers.c', WATCHED)):
+    own = [(HERE / f'{name}.c', ()) for name in ('explore_buffers', 'accesses', 'choices')]
+    for source, flags in (*own, (folder / 'buffers.c', WATCHED)):
         made.append(folder / f'{source.stem}.o')
         subprocess.run([*COMPILER, *flags, '-c', source, '-o', made[-1]], check=True)
     subprocess.run([*COMPILER, '-fsanitize=undefined', *made, '-o', folder / 'explore'], check=True)

@@ -79,7 +79,8 @@ def compiled(source, made, *flags):
 @pytest.fixture(scope='module')
 def program_over(tmp_path_factory):
     """A function that builds the program over a driver and models with some texts, and returns the program's path."""
-    accesses = compiled(HERE / 'accesses.c', tmp_path_factory.mktemp('made') / 'accesses.o', SANITIZED)
+    shared = [compiled(HERE / f'{name}.c', tmp_path_factory.mktemp('made') / f'{name}.o', SANITIZED)
+              for name in ('accesses', 'choices')]
 
     @functools.cache
     def watching(source, model, text):
@@ -95,7 +96,7 @@ def program_over(tmp_path_factory):
         driver = compiled(source, made.with_suffix('.o'), *WATCHED)
         watchers = [watching(source, model, models[model])
                     for source, model in (('explore_schedules', 'Team'), ('places', 'Threads'))]
-        subprocess.run([*COMPILER, SANITIZED, *watchers, accesses, driver, *WRAPPED, '-o', made], check=True)
+        subprocess.run([*COMPILER, SANITIZED, *watchers, *shared, driver, *WRAPPED, '-o', made], check=True)
         return made
     return over
 
