@@ -2,17 +2,14 @@
  * The search for settings, by this program's own clock and hashes: it finds what a table says, also if one hash is
  * disturbed, and ends at errors, at a stop, and soon if hashes take far too long. It is linked with --wrap for that.
  * Then it measures real hashes.
- *
- *     tuning TABLE
  */
 #include "checks.h"
 
-#include <inttypes.h>
 #include <time.h>
 
 #define MILLISECOND UINT64_C(1000000)
 
-enum { FEW = 64, MOST_HASHES = 64 };
+enum { MOST_HASHES = 64 };
 
 static const proved_argon2_settings most = {PROVED_ARGON2_ID, PROVED_ARGON2_VERSION_13, 65536, 0, 1, 32};
 
@@ -91,26 +88,29 @@ static uint32_t tune(uint32_t milliseconds, uint32_t memory, proved_argon2_tunin
 
 /* ---- the table */
 
-static struct row {
+static const struct row {
     uint32_t milliseconds, memory, power;
     uint32_t found_memory, found_passes; /* or zeros, if no settings are strong enough */
-} rows[FEW];
-static size_t row_count;
+} rows[] = {
+    {200, 65536, 1, 65536, 1},
+    {400, 65536, 1, 65536, 2},
+    {60000, 8192, 0, 8192, 10},
+    {60000, 2097152, 0, 2097152, 2},
+    {150, 65536, 1, 16384, 3},
+    {125, 65536, 1, 8192, 5},
+    {150, 19456, 1, 19456, 2},
+    {105, 7168, 1, 7168, 5},
+    {200, 7168, 1, 7168, 9},
+    {191, 65536, 0, 32768, 3},
+    {700, 65536, 2, 65536, 1},
+    {800, 65536, 2, 65536, 2},
+    {20, 7168, 0, 0, 0},
+    {104, 7168, 1, 0, 0},
+    {113, 19456, 1, 0, 0},
+    {137, 47104, 1, 0, 0},
+};
 
-static void read_table(const char *name)
-{
-    FILE *const table = name == NULL ? NULL : fopen(name, "r");
-    char line[512];
-    while (table != NULL && row_count < FEW && fgets(line, sizeof line, table) != NULL) {
-        struct row *const row = &rows[row_count];
-        const int count = sscanf(line, "%" SCNu32 " %" SCNu32 " %" SCNu32 " %" SCNu32 " %" SCNu32, &row->milliseconds,
-            &row->memory, &row->power, &row->found_memory, &row->found_passes);
-        row_count += count == 3 || count == 5;
-    }
-    if (table != NULL) {
-        fclose(table);
-    }
-}
+enum { ROWS = sizeof rows / sizeof *rows };
 
 /* Whether the search finds what a row says, and how long a hash takes. */
 static bool is_found(const struct row *row)
@@ -133,18 +133,18 @@ static bool is_found(const struct row *row)
 static void check_table(void)
 {
     bool good = true;
-    for (size_t i = 0; i < row_count; i++) {
+    for (size_t i = 0; i < ROWS; i++) {
         begin(rows[i].power);
         good = is_found(&rows[i]) && good;
     }
-    check(good && row_count == 16, "the search finds what the table says");
+    check(good, "the search finds what the table says");
 }
 
 /* One hash after another takes a hundred times as long, or two of each three take three times as long. */
 static void check_disturbed(void)
 {
     bool by_one = true, by_two = true;
-    for (size_t i = 0; i < row_count; i++) {
+    for (size_t i = 0; i < ROWS; i++) {
         for (uint32_t hash = 0; hash < 12; hash++) {
             begin(rows[i].power);
             own.slower = 100;
@@ -278,9 +278,8 @@ static void check_real(void)
         "real hashes are measured");
 }
 
-int main(int argc, char **argv)
+int main(void)
 {
-    read_table(argc > 1 ? argv[1] : NULL);
     check_table();
     check_disturbed();
     check_far();

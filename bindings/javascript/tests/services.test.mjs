@@ -237,14 +237,28 @@ test('the presets, limits and version are those of the module', async () => {
     assert.equal((await openMemory()).call('library_version'), +major * 1000000 + +minor * 1000 + +patch);
 });
 
+// The time and the memory within which the package itself searches, for WebAssembly, and what it finds, if anything. A
+// hash takes 3 milliseconds for each MiB, times its passes to the power in between.
+const TUNINGS = [
+    [60000, 8192, 0, 8192, 10],
+    [60000, 2097152, 0, 2097152, 2],
+    [200, 65536, 1, 65536, 1],
+    [400, 65536, 1, 65536, 2],
+    [125, 65536, 1, 8192, 5],
+    [150, 19456, 1, 19456, 2],
+    [191, 65536, 0, 32768, 3],
+    [700, 65536, 2, 65536, 1],
+    [20, 7168, 0],
+    [104, 7168, 1],
+    [137, 47104, 1],
+];
+
 test('tune chooses as much memory as the time allows, and then passes', async () => {
-    const table = readFileSync(new URL('../../../bindings/tests/tunings.txt', `file://${process.env.HEADER}`), 'utf8');
-    for (const row of table.match(/^\d.*/gm)) {
-        const [milliseconds, most, power, ...expected] = row.split(' ').map(Number);
+    for (const [milliseconds, most, power, ...expected] of TUNINGS) {
         const found = fittingCosts(milliseconds, most, async (memory, passes) => 3 * memory / 1024 * passes ** power);
         if (expected.length > 0) {
             const { memory, passes } = await found;
-            assert.deepEqual([memory, passes], expected, row);
+            assert.deepEqual([memory, passes], expected, `${most} KiB in ${milliseconds} ms`);
         } else {
             const limits = `${most} KiB take at most ${milliseconds} milliseconds`;
             await assert.rejects(found, new RegExp(`^RangeError: .* ${limits}`));
