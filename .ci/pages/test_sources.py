@@ -3,7 +3,7 @@
 import re
 
 import pytest
-from common import TOP, files, read, run
+from common import TOP, Copy, files, read, run
 
 LONGEST = 120
 # A language: how its files' names end or first lines begin, and what judges them.
@@ -49,3 +49,19 @@ def test_files_outside_of_ci_do_not_name_it():
     named = [f'{name}: {line}' for name in outside for line in (TOP / name).read_bytes().decode(
         errors='replace').splitlines() if OF_CI.search(line)]
     assert len(outside) > 500 and not named
+
+
+def test_the_texts_of_both_licences_are_the_same_wherever_they_are():
+    mit, apache = (read(f'LICENSES/{name}.txt') for name in ('MIT', 'Apache-2.0'))
+    of_debian = re.sub(r'^ \.?', '', read('debian/copyright'), flags=re.M)
+    assert mit in read('LICENSE') and apache in read('LICENSE') and mit[mit.index('Permission'):] in of_debian
+
+
+def test_each_file_of_an_archive_of_the_sources_has_a_licence(tmp_path, needs):
+    """(.reuse/dep5, which reuse reads, is debian/copyright)"""
+    needs('reuse')
+    copy = Copy(tmp_path)
+    copy.run('git', 'archive', '--prefix=archive/', '--output=archive.tar', copy.run('git', 'write-tree').strip())
+    copy.run('tar', '-xf', 'archive.tar')
+    came = run('reuse', '--root', copy.top / 'archive', 'lint')
+    assert came.returncode == 0, came.stdout

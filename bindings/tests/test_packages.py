@@ -21,7 +21,7 @@ DEBS = {  # what each requires, and the page that it has besides the common ones
 }
 ASKS = {f'{name}_{VERSION}-1_{of}.deb': what for name, what in DEBS.items() for of in ('amd64', 'arm64')}
 ASKS[f'python3-proved-argon2_{VERSION}-1_all.deb'] = (
-    f'python3:any, libproved-argon2-1 (= {VERSION}-1)', 'docs/PYTHON.md')
+    f'python3:any, libproved-argon2-1 (>= {VERSION}-1)', 'docs/PYTHON.md')
 # The files that dpkg reads, or runs as root, for a package, besides `control` and `md5sums`: a file's lines, or the
 # text of Debian's from which dh_python3 makes a script.
 TOLD = {
@@ -138,17 +138,11 @@ def test_released_files_are_packed_byte_for_byte(unpacked, machine, file, count)
                         if path.is_file() and not path.is_symlink() and path.stat().st_size == len(content))
 
 
-def words(text):
-    """The words of both licences behind their titles, whatever their layout."""
-    return [word for line in re.split(r'(?m)^(?:=== MIT|License: MIT$)', text, 1)[1].splitlines()[1:]
-            if not re.match('===|License:', line) for word in re.split('[ .]+', line) if word]
-
-
 @pytest.mark.parametrize('name', NAMES)
 def test_each_has_both_licences_and_the_pages_of_its_users(unpacked, name):
     papers, = (unpacked / name).glob(PAPERS.get(name, 'usr/share/doc/*'))
     if name in ASKS:
-        assert words(read(papers / 'copyright')) == words(read(TOP / 'LICENSE'))
+        assert read(papers / 'copyright') == read(TOP / 'debian/copyright')
     else:
         assert read(papers / 'LICENSE') == read(TOP / 'LICENSE')
     for page in ('NOTICE', 'proved-argon2.spdx'):
