@@ -36,10 +36,10 @@ WHEELS = [f'proved_argon2-{VERSION}-py3-none-manylinux_2_34_{of}.whl'
           for of in ('x86_64.musllinux_1_2_x86_64', 'aarch64')]
 TARBALLS = [f'proved-argon2-{VERSION}-{machine}.tar.gz' for machine in machines()]
 CRATE, NPM, JAR = (f'proved-argon2-{VERSION}.{end}' for end in ('crate', 'tgz', 'jar'))
-GO = f'proved-argon2-go-{VERSION}.zip'
-NAMES = [*ASKS, *WHEELS, *TARBALLS, CRATE, NPM, GO, JAR]
-PAPERS = {CRATE: f'proved-argon2-{VERSION}', NPM: 'package', GO: f'*/*/argon2@v{VERSION}', JAR: 'META-INF',
-          **dict.fromkeys(WHEELS, '*.dist-info/licenses'),
+GO, SDIST = f'proved-argon2-go-{VERSION}.zip', f'proved_argon2-{VERSION}.tar.gz'
+NAMES = [*ASKS, *WHEELS, SDIST, *TARBALLS, CRATE, NPM, GO, JAR]
+PAPERS = {CRATE: f'proved-argon2-{VERSION}', SDIST: f'proved_argon2-{VERSION}', NPM: 'package',
+          GO: f'*/*/argon2@v{VERSION}', JAR: 'META-INF', **dict.fromkeys(WHEELS, '*.dist-info/licenses'),
           **dict.fromkeys(TARBALLS, 'usr/local/share/doc/proved-argon2')}
 ZIPS = '.whl', '.zip', '.jar'
 LISTS = {'.deb': ['dpkg-deb', '-c'], **dict.fromkeys(ZIPS, ['zipinfo'])}
@@ -64,7 +64,7 @@ def copy_tree(folder):
 def packages(tmp_path_factory):
     folder = tmp_path_factory.mktemp('packages')
     run('bash', '-c', f'umask 0 && ./package --to {folder} && cd {folder} && sha256sum --quiet -c SHA256SUMS')
-    assert {file.name for file in folder.iterdir()} == {*NAMES, 'SHA256SUMS'} and len(NAMES) == 19
+    assert {file.name for file in folder.iterdir()} == {*NAMES, 'SHA256SUMS'} and len(NAMES) == 20
     return folder
 
 
@@ -148,7 +148,7 @@ def test_each_has_both_licences_and_the_pages_of_its_users(unpacked, name):
     for page in ('NOTICE', 'proved-argon2.spdx'):
         assert read(papers / page) == read(TOP / page)
     own = ASKS[name][1].split() if name in ASKS else ['docs/C.md', 'docs/LIBARGON2.md', 'docs/SHELL.md']
-    for page in [] if name in (CRATE, NPM, GO, JAR, *WHEELS) else [*OF_ALL, *own]:
+    for page in [] if name in (CRATE, NPM, GO, JAR, SDIST, *WHEELS) else [*OF_ALL, *own]:
         kept, ours = (re.sub(r'\]\([^)]*\)', ']', read(at / page)) for at in (papers, TOP))
         assert kept == ours, page
     pages = [page for form in ('*.md', 'METADATA') for page in (unpacked / name).rglob(form)]

@@ -52,15 +52,12 @@ def test_a_processor_that_is_too_old_is_named_in_the_error():
     assert "has no build for a processor as old as this one" in fresh(program)
 
 
-@pytest.mark.parametrize("system, file, words", [
-    *(("linux", file, "run ./install in the repository") for file in ("/nowhere/library.so", __file__, "libc.so.6")),
-    *((system, "/nowhere/library.so", f"built for Linux, and not for {system}; compile the library as C")
-      for system in ("darwin", "win32"))])
-def test_the_error_says_how_to_get_a_library_on_this_system(monkeypatch, system, file, words):
+@pytest.mark.parametrize("file", ["/nowhere/library.so", __file__, "libc.so.6"])
+def test_the_error_says_how_to_get_a_library(monkeypatch, file):
     """The file does not exist, or is no library, or is another library."""
-    monkeypatch.setattr(sys, "platform", system)
     monkeypatch.setenv(_library.VARIABLE, file)
-    with pytest.raises(ImportError, match=f"cannot be loaded: .*{words}.*, or name the file in {_library.VARIABLE}"):
+    words = "run ./install in the repository .*, or let pip compile the library .*, or name the file in"
+    with pytest.raises(ImportError, match=f"cannot be loaded: {words} {_library.VARIABLE}"):
         _library._load()
 
 

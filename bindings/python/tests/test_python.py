@@ -6,7 +6,7 @@ import tarfile
 import zipfile
 
 import pytest
-from running import CC, TOP, VERSION, built as built_part, fetch, needs, run, start
+from running import CC, MACHINE, TOP, VERSION, fetch, needs, run, start
 
 PACKAGE, SONAME = TOP / "bindings/python", f"libproved_argon2.so.{VERSION.split('.')[0]}"
 TESTS = PACKAGE / "tests"
@@ -103,17 +103,6 @@ def test_the_tests_of_argon2_cffi_pass_except_for_listed_ones(with_library, tmp_
 
 
 @by_pip
-@pytest.mark.parametrize("found", ['"glibc 2.31"', "None"])
-def test_pip_installs_nothing_without_the_needed_c_library_and_says_so(tmp_path, found):
-    """The C library is older than ./install accepts, or musl."""
-    oldest = re.search(r"^oldest_libc=(.*)", (TOP / "install").read_text(), re.M)[1]
-    (tmp_path / "sitecustomize.py").write_text(f"import os\nos.confstr = lambda _: {found}\n")
-    done = start(PYTHON, *PIP, "--target", tmp_path / "site", PACKAGE, env={"PYTHONPATH": tmp_path})
-    why = f"the library needs the GNU C library {oldest} or newer, and here is"
-    assert done.returncode == 1 and why in done.stdout + done.stderr and not (tmp_path / "site").exists(), done
-
-
-@by_pip
 def test_an_editable_installation_uses_the_library_beside_python(installed, package, tmp_path):
     """Changes in the folder take effect. The library is where ./install "$VIRTUAL_ENV" puts it, and is used unless the
     system's loader finds another one."""
@@ -130,41 +119,50 @@ print(profiles.mark, _library._library._name)""")
     assert said in (f"1 {SONAME}\n", f"1 {beside}\n")
 
 
-def pack(folder, kind, to, **variables):
-    """Pack a folder with hatchling. Return the file."""
-    run(PYTHON, "-B", "-m", "hatchling", "build", "-t", kind, "-d", to, cwd=folder, env=variables)
-    (made,) = to.glob("*.whl" if kind == "wheel" else "*.tar.gz")
-    return made
+@pytest.fixture(scope="module")
+def packed(tmp_path_factory):
+    """Return the wheel and the archive of sources that ./package makes for this machine."""
+    folder = tmp_path_factory.mktemp("packed")
+    run("./package", "wheel", "sdist", "--to", folder, env={"MACHINES": MACHINE})
+    return [*folder.glob("*.whl"), *folder.glob("*.tar.gz")]
 
 
 @by_pip
-def test_a_wheel_and_a_source_archive_have_metadata_and_licences(package, tmp_path):
-    """The licences are those of the repository, and the address is that of Debian's packages."""
-    wheel = zipfile.ZipFile(pack(package, "wheel", tmp_path))
-    archive = tarfile.open(pack(package, "sdist", tmp_path)).getnames()
+def test_a_wheel_and_an_archive_of_sources_have_metadata_and_licences(packed):
+    """The licences are those of the repository, and the address is that of Debian's packages. The metadata name no
+    licence's file, which they may do only from version 2.4 on."""
+    wheel, archive = zipfile.ZipFile(packed[0]), tarfile.open(packed[1])
     (metadata,) = [wheel.read(name).decode() for name in wheel.namelist() if name.endswith("METADATA")]
+    (described,) = [name for name in archive.getnames() if name.endswith("PKG-INFO")]
+    assert archive.extractfile(described).read().decode() == metadata
     address = re.search(r"^ -- (.*@.*>)  ", (TOP / "debian/changelog").read_text(), re.M)[1]
-    assert {
-        "Name: proved-argon2", f"Author-email: {address}", "License: MIT OR Apache-2.0",
-        "License-File: LICENSE", "Requires-Python: >=3.8",
-    } <= {*metadata.split("\n\n")[0].splitlines()}
+    fields = metadata.split("\n\n")[0].splitlines()
+    assert {"Metadata-Version: 2.1", "Name: proved-argon2", f"Author-email: {address}", "License: MIT OR Apache-2.0",
+            "Requires-Python: >=3.8"} <= {*fields} and "License-File" not in {line.split(":")[0] for line in fields}
     assert metadata.endswith((PACKAGE / "README.md").read_text())
     for name in ("LICENSE", "NOTICE", "proved-argon2.spdx"):
         (kept,) = [wheel.read(file) for file in wheel.namelist() if file.endswith(f"dist-info/licenses/{name}")]
-        assert kept == (TOP / name).read_bytes() and [file for file in archive if file.endswith(f"/{name}")]
+        assert kept == (TOP / name).read_bytes()
+        assert [file for file in archive.getnames() if file.endswith(f"{VERSION}/{name}")]
+
+
+@needs("twine")
+def test_twine_accepts_the_wheel_and_the_archive_of_sources(packed):
+    run("twine", "check", "--strict", *packed)
 
 
 @by_pip
-def test_pip_compiles_the_library_as_c_on_other_machines(package, tmp_path):
-    """The source archive contains the library as C."""
-    folder = tmp_path / "package"
-    shutil.copytree(package, folder)
-    shutil.copytree(built_part("portable") / "portable", folder / "c")
-    (tmp_path / "sitecustomize.py").write_text('import platform\nplatform.machine = lambda: "riscv64"\n')
-    names = tarfile.open(pack(folder, "sdist", tmp_path)).getnames()
-    assert [name for name in names if name.endswith("/c/module_code.h")]
-    zipfile.ZipFile(pack(folder, "wheel", tmp_path, PYTHONPATH=tmp_path)).extractall(tmp_path / "site")
-    run(PYTHON, "-B", "-c", HASHES, env={"PYTHONPATH": tmp_path / "site"})
+@pytest.mark.timeout(2400)
+def test_the_library_that_pip_compiles_passes_the_package_s_own_tests(packed, drawn, tmp_path):
+    """The compiler gets nothing but the archive of sources."""
+    run(PYTHON, *PIP, "--no-cache-dir", "--target", tmp_path / "site", packed[1])
+    alone = {"PYTHONPATH": tmp_path / "site", "PYTHONDONTWRITEBYTECODE": 1, "PROVED_ARGON2_LIBRARY": None}
+    (found,) = (tmp_path / "site").rglob("*.so*")
+    assert run(PYTHON, "-c", "from proved_argon2 import _library\nprint(_library._library._name)", env=alone) == (
+        f"{found}\n")
+    assert " proved_portable_" in run("nm", found)
+    words = TESTS, "--ignore", __file__, "-k", "not too_old"  # (it runs on any processor)
+    print(run(*PYTEST, *words, env={**alone, **drawn}))
 
 
 @needs("mypy")

@@ -163,10 +163,10 @@ def _load() -> ctypes.CDLL:
         if library.proved_argon2_library_version() == 0:
             raise ImportError(f"{file} has no build for a processor as old as this one")
         return library
-    advice = "run ./install in the repository of proved-argon2, which needs the GNU C library 2.34 or newer"
-    if sys.platform != "linux":
-        advice = f"it is built for Linux, and not for {sys.platform}; compile the library as C (docs/INSTALL.md)"
-    raise ImportError(f"{SONAME} cannot be loaded: {advice}, or name the file in {VARIABLE} ({'; '.join(reasons)})")
+    raise ImportError(
+        f"{SONAME} cannot be loaded: run ./install in the repository of proved-argon2, or let pip compile the library"
+        f" from the package's archive of sources, or name the file in {VARIABLE} ({'; '.join(reasons)})"
+    )
 
 
 _library = _load()
