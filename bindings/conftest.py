@@ -28,6 +28,16 @@ def installed(tmp_path_factory):
 
 
 @pytest.fixture(scope="session")
+def archive(tmp_path_factory):
+    """An archive of the sources, unpacked: what git packs of the files here."""
+    folder = tmp_path_factory.mktemp("archive")
+    script = 'cp "$(git rev-parse --git-path index)" "$1" && export GIT_INDEX_FILE=$1 && git add --all' \
+             ' && git archive "$(git write-tree)" | tar -xC "$0"'
+    running.run("bash", "-eo", "pipefail", "-c", script, folder, folder.with_suffix(".index"))
+    return folder
+
+
+@pytest.fixture(scope="session")
 def cargo(tmp_path_factory):
     """The variables by which cargo takes Debian's crates, and compiles into one folder."""
     home = tmp_path_factory.mktemp("cargo")

@@ -167,12 +167,32 @@ is_of_sources() {
     [ "$(grep "^# sources $1 " "$root/release/MANIFEST" 2>/dev/null)" = "# sources $1 $sum" ]
 }
 
+# The programs of release/ that contain the toolchain's code, which has no licence (NOTICE). .gitattributes leaves them
+# out of an archive of the sources, and .gitignore out of a repository that begins with such an archive.
+unlicensed='x86-64-v[0-9]+/argon2_(program|tool)'
+
+# Whether this tree is without these programs: not one is here, and git tracks none.
+lacks_unlicensed() {
+    programs=$(sed -nE "s#^[0-9a-f]+  ($unlicensed)\$#release/\1#p" "$root/release/MANIFEST" 2>/dev/null)
+    [ "$programs" ] || return
+    for absent in $programs; do
+        [ ! -e "$root/$absent" ] && [ ! -L "$root/$absent" ] || return
+    done
+    # shellcheck disable=SC2086 # they are words
+    tracked=$(git -c safe.directory='*' -C "$root" ls-files -- $programs 2>/dev/null) || [ ! -e "$root/.git" ] || return
+    [ -z "$tracked" ]
+}
+
 # Whether a file of release/, or a folder's content, is as the manifest names it: `is_listed PART`. `uniq -u` drops what
 # the list and the files' sums share. A NUL ends each entry, since names may contain blanks and line ends. The first
 # entry, `-  -`, stays alone if all is well, and is missing if a command could not run.
 is_listed() {
     why="release/MANIFEST names no file of $1"
     listed=$(grep -E "^[^#].*  $1(/|\$)" "$root/release/MANIFEST") || return
+    if lacks_unlicensed; then
+        why="release/$1 is in no archive of the sources: see NOTICE"
+        listed=$(printf '%s\n' "$listed" | grep -vE "  $unlicensed\$") || return
+    fi
     other=$(cd "$root/release" && { printf '%s\n' '-  -' "$listed" | sort -u | tr '\n' '\0' && find "$1" \( -type f \
         -exec sha256sum -z -- {} + \) -o ! -type d -printf '-  %p\0' 2>/dev/null; } | LC_ALL=C sort -z -k 2 \
         | LC_ALL=C uniq -zu | tr '\n\0' '?\n')

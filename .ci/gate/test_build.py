@@ -80,6 +80,29 @@ def test_no_name_of_a_link_hides_a_changed_file(tmp_path, links):
     assert run('sh', '-c', f'uniq() {{ false; }}; {script}').returncode == 1
 
 
+PROGRAMS, OTHER = ('x86-64-v2/argon2_program', 'x86-64-v2/argon2_tool'), 'x86-64-v2/libargon2_c.a'
+
+
+@pytest.mark.parametrize('absent, forged, tracked, is_well', [
+    (PROGRAMS, None, OTHER, True), ((), None, '.', True), (PROGRAMS, None, '.', False),
+    (PROGRAMS[:1], None, OTHER, False), ((*PROGRAMS, OTHER), None, OTHER, False),
+    (PROGRAMS[:1], PROGRAMS[1], OTHER, False), (PROGRAMS, OTHER, OTHER, False)])
+def test_only_an_archive_lacks_files_and_only_those_without_a_licence(tmp_path, absent, forged, tracked, is_well):
+    """There git tracks none of them."""
+    release = tmp_path / 'release'
+    (release / OTHER).parent.mkdir(parents=True)
+    for name in *PROGRAMS, OTHER:
+        (release / name).write_text('built', encoding='utf-8')
+    (release / 'MANIFEST').write_text(''.join(f'{SUMS[0]}  {name}\n' for name in (*PROGRAMS, OTHER)), encoding='utf-8')
+    run('bash', '-ec', f'git init -q ..; git add {tracked}', cwd=release)
+    for name in absent:
+        (release / name).unlink()
+    if forged:
+        (release / forged).write_text('forged', encoding='utf-8')
+    came = run('sh', '-c', f'root={tmp_path}; . build/current.sh; is_listed x86-64-v2 || {{ echo "$why"; exit 1; }}')
+    assert (came.returncode == 0) == is_well and ('is not the file that' in came.stdout) != is_well, came.stdout
+
+
 @pytest.mark.parametrize('script', ['build/clean', '.ci/release/tag'])
 def test_cdpath_leads_a_script_to_no_other_folder(tmp_path, script):
     """There it would run that folder's build/current.sh, and delete or tag what is there."""

@@ -134,11 +134,12 @@ def track_unseen(copy):
     for number, sign in enumerate(UNSEEN):
         (copy / f'docs/page{number}.md').write_text(f'{sign}\n', encoding='utf-8')
     (copy / 'docs/a -delete').write_text('', encoding='utf-8')
-    (copy / 'build/.gitattributes').write_text('*.sh -diff\n', encoding='utf-8')
+    for name in ('build/.gitattributes', '.gitattributes'):
+        (copy / name).write_text('*.sh -diff\n', encoding='utf-8')
     for name in ('build/__pycache__/machines.pyc', 'bindings/out/x86_64/made'):
         (copy / name).parent.mkdir(parents=True, exist_ok=True)
         (copy / name).write_bytes(bytes(9))
-    for words in (['init', '-q'], ['add', '-f', 'docs', 'build', 'bindings/out/x86_64']):
+    for words in (['init', '-q'], ['add', '-f', 'docs', 'build', '.gitattributes', 'bindings/out/x86_64']):
         subprocess.run(['git', *words], cwd=copy, check=True)
 
 
@@ -160,7 +161,7 @@ FORGERIES = {
     'the same before anything is built': (add_a_file, [CLEAN], [f'build/clean: {LIST} does not name']),
     'what git may not track': (track_unseen, [CLEAN], [
         'a link: docs/link', *(f'invisible characters: docs/page{number}.md' for number in range(len(UNSEEN))),
-        'an odd name: docs/a -delete', 'no source: build/.gitattributes',
+        'an odd name: docs/a -delete', 'no source: build/.gitattributes', 'an attribute: *.sh -diff',
         'binary: build/current.sh', 'no source: build/__pycache__/machines.pyc', 'no source: bindings/out/x86_64']),
     'another program': (forge(TOOL), [INSTALL, PACKAGE, HASH], [f'release/{TOOL} {CHANGED}']),
     'another library': (forge(ARCHIVE), [INSTALL, PACKAGE], [f'release/{ARCHIVE} {CHANGED}']),

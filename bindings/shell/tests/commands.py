@@ -21,11 +21,13 @@ check and new take at most 2 GiB, 10 passes, 16 lanes and the work of 4 GiB in o
 """
 
 
-@pytest.fixture(scope="module", autouse=True, params=["sh", "bash", "./argon2"])
-def each_command(request, installed):
-    """The installed program, run by the system's shell and by bash, and the repository's program."""
+@pytest.fixture(scope="module", autouse=True, params=["sh", "bash", "./argon2", "archive"])
+def each_command(request, installed, archive):
+    """The installed program, run by the system's shell and by bash, and the programs of the repository and of an
+    archive of the sources."""
     script = str(installed / "bin/proved-argon2")
-    COMMAND[:] = {"sh": [script], "bash": ["bash", script]}.get(request.param, [str(ROOT / "argon2")])
+    COMMAND[:] = {"sh": [script], "bash": ["bash", script], "archive": [str(archive / "argon2")]}.get(
+        request.param, [str(ROOT / "argon2")])
     piped(["new", *SMALL], b"password")  # (a clone says once which program it runs)
 
 
