@@ -60,8 +60,8 @@ PROCEDURES = {
                                 ('build/machines.txt', '[+] x86-64-v2 ', '+ x86-64-v1 ssse3\n+ x86-64-v2 ')],
 }
 PUBLISHER, CONTACT = 'A Publisher', 'security@publisher.org'
-# A publisher fills in these by hand (docs/INSTALL.md).
-FILLED_IN = [('PROJECT', r'(?s)\A.+', f'Name: proved-argon2\nPublisher: {PUBLISHER}\nContact: {CONTACT}\n'
+# A publisher fills in these by hand (docs/PUBLISHING.md).
+FILLED_IN = [('PROJECT', r'(?s)Publisher: .+', f'Publisher: {PUBLISHER}\nContact: {CONTACT}\n'
               'Address: https://publisher.org/proved-argon2\n'),
              ('debian/changelog', ' -- .*>', f' -- {PUBLISHER} <{CONTACT}>'),
              ('CHANGELOG.md', 'Unreleased, November 2026', '1 December 2026')]

@@ -1,6 +1,7 @@
-"""Makes the packages, here and elsewhere as another user, and inspects each. Each package by
+"""Makes the packages of a release, here and elsewhere as another user, and inspects each. Each package by
 itself, without the toolchain and this repository, runs the first lines of the pages (debian/tests), and leaves nothing
-when it is removed. Fresh systems of other releases install them, and switch to our libargon2 and back."""
+when it is removed. The archive of the sources makes all the others. Fresh systems of other releases install them, and
+switch to our libargon2 and back."""
 
 import os
 import re
@@ -10,7 +11,20 @@ from pathlib import Path
 
 import pytest
 from machines import machines
-from running import CRATES_OF_DEBIAN, TOP, VERSION, first_lines, in_namespace, needs, project, run, start
+from packaging.version import Version
+from running import (
+    CRATES_OF_DEBIAN,
+    MACHINE,
+    TOP,
+    VERSION,
+    first_lines,
+    in_namespace,
+    needs,
+    project,
+    refuses,
+    run,
+    start,
+)
 
 PROJECT = dict(re.findall(r'^(\w+): (.+)$', (TOP / 'PROJECT').read_text(encoding='utf-8'), re.M))
 DEBS = {  # what each requires, and the page that it has besides the common ones
@@ -37,7 +51,9 @@ WHEELS = [f'proved_argon2-{VERSION}-py3-none-manylinux_2_34_{of}.whl'
 TARBALLS = [f'proved-argon2-{VERSION}-{machine}.tar.gz' for machine in machines()]
 CRATE, NPM, JAR = (f'proved-argon2-{VERSION}.{end}' for end in ('crate', 'tgz', 'jar'))
 GO, SDIST = f'proved-argon2-go-{VERSION}.zip', f'proved_argon2-{VERSION}.tar.gz'
+SOURCE = f'proved-argon2-{VERSION}.tar.gz'
 NAMES = [*ASKS, *WHEELS, SDIST, *TARBALLS, CRATE, NPM, GO, JAR]
+STORED = '$argon2i$v=19$m=256,t=2,p=1$c29tZXNhbHQ$iekCn0Y3spW+sCcFanM2xBT63UP2sghkUoHLIUpWRS8'
 PAPERS = {CRATE: f'proved-argon2-{VERSION}', SDIST: f'proved_argon2-{VERSION}', NPM: 'package',
           GO: f'*/*/argon2@v{VERSION}', JAR: 'META-INF', **dict.fromkeys(WHEELS, '*.dist-info/licenses'),
           **dict.fromkeys(TARBALLS, 'usr/local/share/doc/proved-argon2')}
@@ -60,11 +76,38 @@ def copy_tree(folder):
     return shutil.copytree(TOP, folder, symlinks=True, ignore=shutil.ignore_patterns('out', 'target', '.git'))
 
 
+# A repository with one signed commit. The tests of pages, which run by themselves, only say that they were asked.
+TAGGED = f"""cd "$0"; git init -q; git config user.name Signer; git config user.email signer@a.example
+gpg --batch --quiet --passphrase '' --quick-gen-key 'Signer <signer@a.example>'
+printf '#!/bin/sh\necho "tests of pages: $*"; [ ! -e out/wrong ]\n' >.ci/quick
+git add --all; git add --force release; git commit -qm 'release: begin'; git tag -s -m 'A version' v{VERSION}"""
+
+
 @pytest.fixture(scope='session')
-def packages(tmp_path_factory):
+def keys(tmp_path_factory):
+    """The environment with an empty folder for keys."""
+    folder = tmp_path_factory.mktemp('keys')
+    folder.chmod(0o700)
+    yield {'GNUPGHOME': folder}
+    start('gpgconf', '--kill', 'all', env={'GNUPGHOME': folder})
+
+
+@pytest.fixture(scope='session')
+def tagged(keys, tmp_path_factory):
+    """A repository of these sources whose commit has the signed tag."""
+    folder = copy_tree(tmp_path_factory.mktemp('tagged') / 'tree')
+    run('bash', '-euc', TAGGED, folder, env=keys)
+    return folder
+
+
+@pytest.fixture(scope='session')
+def packages(tagged, keys, tmp_path_factory):
     folder = tmp_path_factory.mktemp('packages')
-    run('bash', '-c', f'umask 0 && ./package --to {folder} && cd {folder} && sha256sum --quiet -c SHA256SUMS')
-    assert {file.name for file in folder.iterdir()} == {*NAMES, 'SHA256SUMS'} and len(NAMES) == 20
+    run('bash', '-ec', 'umask 0; "$0"/package --release --to "$1"; cd "$1"; sha256sum --quiet -c SHA256SUMS'
+        '; gpg --verify SHA256SUMS.asc SHA256SUMS', tagged, folder, env=keys)
+    listed = re.findall('  (.*)', read(folder / 'SHA256SUMS'))
+    assert sorted(listed) == sorted([*NAMES, SOURCE]) and len(NAMES) == 20
+    assert {file.name for file in folder.iterdir()} == {*listed, 'SHA256SUMS', 'SHA256SUMS.asc'}
     return folder
 
 
@@ -87,26 +130,139 @@ def there():
         yield Path(folder)
 
 
-def test_packages_made_elsewhere_by_another_user_have_the_same_bytes(packages, there):
-    """There are another folder, user, umask, clock, zone and language, and one processor. Modules that lie beside the
-    scripts are not run."""
-    tree, home = copy_tree(there / 'tree'), there / 'home'
-    for folder in 'bindings/java', 'bindings/javascript/inline', 'bindings/python', '.':
-        for name in 'base64', 'hatchling', 'tempfile', 'zipfile':
-            (tree / folder / f'{name}.py').write_text('raise SystemExit("a planted module ran")\n', encoding='utf-8')
-    run('bash', '-c', f'install -d -m 777 {home} && chmod -R a+rX {there}')
+def test_packages_made_elsewhere_by_another_user_have_the_same_bytes(tagged, packages, keys, there):
+    """There are another folder, user, umask, clock, zone and language, and one processor, and no key to sign with.
+    Modules that lie beside the scripts are not run."""
+    tree, home = shutil.copytree(tagged, there / 'tree', symlinks=True), there / 'home'
+    planted = [f'{folder}/{name}.py' for folder in (
+        'bindings/java', 'bindings/javascript/inline', 'bindings/python', '') for name in (
+        'base64', 'hatchling', 'tempfile', 'zipfile')]
+    for name in planted:
+        (tree / name.lstrip('/')).write_text('raise SystemExit("a planted module ran")\n', encoding='utf-8')
+    (tree / '.git/info/exclude').write_text('\n'.join(planted), encoding='utf-8')
+    run('bash', '-ec', 'install -d -m 777 "$0"; install -d -m 700 -o 65534 -g 65534 "$0/keys"; gpg --export >"$0/key"'
+        '; chmod -R a+rX "$0/.."', home, env=keys)
     late = ['faketime', '-f', '+40d'] if shutil.which('faketime') else []
-    run('bash', '-c', 'umask 077 && cd / && "$@"', 'bash', 'taskset', '-c', '0', 'setpriv', '--reuid=65534',
-        '--regid=65534', '--clear-groups', 'env', f'HOME={home}', f'TMPDIR={home}', 'TZ=Asia/Tokyo',
-        'LC_ALL=C.UTF-8', *late, tree / 'package', '--to', home / 'made')
+    made = start('bash', '-c', 'umask 077 && cd / && "$@"', 'bash', 'taskset', '-c', '0', 'setpriv', '--reuid=65534',
+                 '--regid=65534', '--clear-groups', 'env', f'HOME={home}', f'TMPDIR={home}', 'TZ=Asia/Tokyo',
+                 'LC_ALL=C.UTF-8', f'GNUPGHOME={home}/keys', 'bash', '-c', 'gpg --quiet --import <~/key && "$@"',
+                 'bash', *late, tree / 'package', '--release', '--to', home / 'made')
+    assert 'package: SHA256SUMS is not signed' in made.stderr and not (home / 'made/SHA256SUMS.asc').exists()
     assert read(home / 'made/SHA256SUMS') == read(packages / 'SHA256SUMS')
+
+
+# What is done to the repository of a release, and why `./package --release` then makes nothing.
+UNRELEASED = {
+    'another commit': ('git commit -q --allow-empty -m more', f'the tag v{VERSION} does not name this commit'),
+    'no signature': (f'git tag -f -a -m more v{VERSION}', f'the tag v{VERSION} has no signature'),
+    'a new file': ('git config status.showUntrackedFiles no; touch more', 'a file is not committed'),
+    'another file': (f'echo >>release/portable/module_code.h; git commit -qam more; git tag -f -s -m more v{VERSION}',
+                     'release/portable/module_code.h is not the file that release/MANIFEST names'),
+    'a wrong page': ('mkdir out; touch out/wrong', 'tests of pages: --documents'),
+    'one kind': ('set -- go', '--release makes all kinds')}
+
+
+@pytest.fixture
+def clone(tagged, tmp_path):
+    run('git', 'clone', '-q', tagged, tmp_path / 'clone')
+    return tmp_path / 'clone'
+
+
+@pytest.mark.parametrize('name', UNRELEASED)
+def test_only_what_a_signed_tag_names_is_released(clone, keys, tmp_path, name):
+    change, why = UNRELEASED[name]
+    who = 'git config user.name Signer; git config user.email signer@a.example'
+    refuses(1, f'package: {why}', 'bash', '-euc', f'{who}; {change} >/dev/null; ./package --release --to "$0" "$@"',
+            tmp_path / 'made', cwd=clone, env=keys)
+    assert not (tmp_path / 'made').exists()
+
+
+# The grammars of semver.org and, for a version without a tag, of Go's modules.
+IDENTIFIER = r'(?:0|[1-9]\d*|\d*[a-zA-Z-][\da-zA-Z-]*)'
+SEMVER = re.compile(rf'{re.escape(VERSION)}-{IDENTIFIER}(?:\.{IDENTIFIER})*')
+PSEUDO = re.compile(rf'{re.escape(VERSION)}-([^+]*\.)?0\.\d{{14}}-[\da-f]{{12}}')
+
+
+def versions_in(tree):
+    """Returns the versions of what is no release. Each has its registry's form, and is smaller than the release's."""
+    kinds = 'source', 'tarball', 'crate', 'npm', 'go', 'wheel', 'sdist', 'debian', 'java'
+    found = {kind: run(tree / 'package', '--version', kind).strip() for kind in kinds}
+    assert all(SEMVER.fullmatch(found[kind]) for kind in kinds[:5]) and PSEUDO.fullmatch(found['go'])
+    assert Version(found['wheel']) < Version(VERSION) and str(Version(found['wheel'])) == found['wheel']
+    run('dpkg', '--compare-versions', f'{found["debian"]}-1', 'lt', f'{VERSION}-1')
+    assert found.pop('java') == f'{VERSION}-SNAPSHOT'
+    return found
+
+
+def test_a_version_that_is_no_release_names_its_commit(clone):
+    commit = run('git', 'rev-parse', 'HEAD', cwd=clone)[:12]
+    first = versions_in(clone)
+    (clone / 'README.md').write_text('changed\n', encoding='utf-8')
+    changed = versions_in(clone)
+    assert all(commit in version for version in (*first.values(), *changed.values()))
+    assert [kind for kind in first if changed[kind] == first[kind]] == ['source']  # (which has what is committed)
+    shutil.rmtree(clone / '.git')
+    assert all('unknown' in version or '-000000000000' in version for version in versions_in(clone).values())
+
+
+# How each kind's packages name their version, beside the file's name.
+NAMED = {'wheel': 'unzip -p *x86_64.whl "*/METADATA"',
+         'sdist': 'tar -xOf proved_*.tar.gz --wildcards "*/PKG-INFO"',
+         'crate': 'tar -xOf *.crate --wildcards "*/Cargo.toml"', 'debian': 'dpkg-deb -f libproved-argon2-1_*.deb',
+         'npm': 'tar -xOf *.tgz package/package.json', 'java': 'jar --describe-module --file *.jar',
+         'go': 'unzip -l *.zip', 'tarball': 'ls proved-*.tar.gz'}
+UNLICENSED = {f'release/{build}/argon2_{name}' for build in machines()['x86_64'].proved for name in ('program', 'tool')}
+
+
+def test_the_archive_of_the_sources_makes_all_other_packages(tagged, packages, tmp_path):
+    """It lacks only the programs that have no licence. The command, and what is installed, run without them."""
+    run('tar', '-C', tmp_path, '-xzf', packages / SOURCE)
+    tree, made = tmp_path / f'proved-argon2-{VERSION}', tmp_path / 'made'
+    files = {str(path.relative_to(tree)) for path in tree.rglob('*') if not path.is_dir()}
+    assert {*run('git', 'ls-files', cwd=tagged).splitlines()} - files == UNLICENSED and len(UNLICENSED) == 4
+    first = '\n'.join(re.findall(r'^    (.*\./argon2 .*)$', read(TOP / 'README.md'), re.M))
+    came = start('bash', '-euo', 'pipefail', '-c', first, cwd=tree)
+    assert came.stdout.strip() == 'true' and f'./argon2 runs release/{MACHINE}/argon2_tool' in came.stderr
+    run(tree / 'install', tmp_path / 'prefix')
+    assert run(tmp_path / 'prefix/bin/proved-argon2', 'check', STORED, input='password') == 'true\n'
+    refuses(1, 'only a repository of git', tree / 'package', 'source')
+    for kind, command in NAMED.items():
+        run(tree / 'package', kind, '--to', made, env={'MACHINES': MACHINE})
+        version = run(tree / 'package', '--version', kind).strip()
+        assert version in run('bash', '-ec', command, cwd=made), kind
+    listed = {line.split()[1]: line.split()[0] for line in read(made / 'SHA256SUMS').splitlines()}
+    assert listed.keys() | {'SHA256SUMS'} == {file.name for file in made.iterdir()} and len(listed) == 13
+    tarball, = (own for name, own in listed.items() if name.endswith(f'-{MACHINE}.tar.gz'))
+    assert tarball in read(packages / 'SHA256SUMS')
+    assert not (tree / 'bindings/out').exists()
+
+
+# Links to all programs of the system, except the compilers for other machines.
+WITHOUT_CROSS = ('for file in /usr/bin/*; do [[ ${file##*/} == @(aarch64-linux|x86_64-w64)-* ]] || ln -s "$file" "$0"'
+                 '; done')
+
+
+def test_a_jar_contains_the_libraries_whose_compilers_are_there(tmp_path):
+    """It needs none for a machine that was not asked for."""
+    (tmp_path / 'bin').mkdir()
+    run('bash', '-ec', WITHOUT_CROSS, tmp_path / 'bin')
+    path = {'PATH': tmp_path / 'bin'}
+    for machines_asked in None, MACHINE:
+        came = start('./package', 'java', '--to', tmp_path, env={**path, 'MACHINES': machines_asked})
+        jar, = tmp_path.glob('*.jar')
+        assert re.findall(r'native/(\S+)', run('unzip', '-l', jar)) == [f'linux-{MACHINE}.so']
+        assert re.findall('no library for (.*) in the jar', came.stderr) == (
+            [] if machines_asked else ['aarch64', 'windows-x86_64'])
+        jar.unlink()
+    refuses(1, 'gcc-aarch64-linux-gnu', './package', 'java', '--to', tmp_path, env={**path, 'MACHINES': 'aarch64'})
 
 
 def test_a_tarball_is_the_same_with_a_libdir_and_replaces_a_link(packages, tmp_path):
     (tmp_path / 'victim').write_text('mine')
     (tmp_path / 'SHA256SUMS').symlink_to('victim')
     run('./package', 'tarball', '--to', tmp_path, env={'LIBDIR': '/opt/lib', 'CDPATH': '/opt'})
-    assert read(tmp_path / 'victim') == 'mine' and read(tmp_path / 'SHA256SUMS') in read(packages / 'SHA256SUMS')
+    sums = {*re.findall('(?m)^[0-9a-f]+', read(tmp_path / 'SHA256SUMS'))}
+    assert read(tmp_path / 'victim') == 'mine' and len(sums) == 2 and sums <= {*read(packages / 'SHA256SUMS').split()}
 
 
 @needs('lintian')
