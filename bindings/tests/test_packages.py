@@ -350,6 +350,74 @@ def test_a_package_for_debian_tells_dpkg_nothing_else_and_runs_nothing_else_as_r
         file: lines_of(text.replace('#ARGS#', '')) for file, text in expected.items()}
 
 
+# ---- what others have written
+
+# Each compiler that links what we pack, and the files from which it may take code, by the names in the SPDX file.
+COMPILERS = {'linux': ('gcc', 'aarch64-linux-gnu-gcc'), 'windows': ('x86_64-w64-mingw32-gcc-posix',)}
+SOURCES_OF_CODE = {'glibc': 'Scrt1.o crti.o crtn.o libc_nonshared.a libc.a', 'libgcc': 'crtbeginS.o crtendS.o libgcc.a',
+                   'mingw-w64': 'libkernel32.a libmsvcrt.a libadvapi32.a libmingwex.a libmingw32.a'}
+OURS = re.compile('argon2[a-z_]*::|(Java_|__imp_|_head_)?proved_|PROVED_|argon2(d|i|id)?_')
+
+
+def symbols(file, *options):
+    """Returns the names that a file defines, without the numbers that compilers add, and without local labels."""
+    listed = start('nm', '-P', '--defined-only', *options, file).stdout
+    lines = re.findall(r'^([^\s.$][^\s@]*) [A-Za-z](?: |$)', listed, re.M)
+    return {name if '::' in name else name.partition('.')[0] for name in lines}
+
+
+def linked_by(compiler, folder):
+    """Returns the names that a linker itself defines, and those of each source of code that it has."""
+    (folder / 'empty.c').write_text('int entry(void) { return 0; }\n', encoding='utf-8')
+    for form in '-shared', '-static-pie':
+        run(compiler, form, '-nostdlib', '-Wl,--entry=entry', 'empty.c', '-o', f'{compiler}{form}', cwd=folder)
+    names = {None: {'entry'}.union(*map(symbols, folder.glob(f'{compiler}-*')))}
+    for owner, files in SOURCES_OF_CODE.items():
+        paths = [Path(run(compiler, f'-print-file-name={file}').strip()) for file in files.split()]
+        # (of a library, names that are not exported may also be ours)
+        names[owner] = {name for path in paths if path.is_absolute()
+                        for name in symbols(path, *['-g'] * (path.name == 'libc.a'))} - names[None]
+    return names
+
+
+@needs(*sum(COMPILERS.values(), ()))
+def test_the_spdx_file_lists_what_others_have_written(unpacked, tmp_path):
+    """Each name that a packed file defines is in our sources, or in code of what the SPDX file lists for that file."""
+    written = {*re.findall(r'\w+', '\n'.join(read(path) for folder in ('bindings', 'release/portable') for end in 'chs'
+                                             for path in (TOP / folder).rglob(f'*.{end}')))}
+    names = {system: [linked_by(compiler, tmp_path) for compiler in compilers]
+             for system, compilers in COMPILERS.items()}
+    found, unknown, seen = {}, set(), set()
+    released = {f'release/{name}' for name in re.findall(r'(?m)^[^#].*  (.*)$', read(TOP / 'release/MANIFEST'))}
+    for path in (*unpacked.rglob('*'), *(TOP / name for name in released - UNLICENSED)):
+        content = path.read_bytes() if path.is_file() and not path.is_symlink() else b''
+        if content[:2] != b'MZ' and content[:4] != b'\x7fELF' and content[:8] != b'!<arch>\n':
+            continue
+        seen.add(path.name)
+        defined = {name for name in symbols(path) if not OURS.match(name)}
+        for of in names['linux' if b'\x7fELF' in content else 'windows']:
+            for owner in of.keys() - {None}:
+                if defined & of[owner]:
+                    found.setdefault(owner, set()).add(path.name)
+            defined -= set().union(*of.values())
+        unknown |= {(path.name, name) for name in defined - written}
+        assert symbols(path), path
+    listed = dict(re.findall(r'^PackageName: (.*)\n(?:.+\n)*?PackageComment: <text>(.*)</text>$',
+                             read(TOP / 'proved-argon2.spdx'), re.M))
+    assert len(seen) > 12 and not unknown
+    assert found == {owner: {*' '.join(re.findall(r' in: (.*?)\.(?= |$)', text)).split()}
+                     for owner, text in listed.items()}
+
+
+@pytest.mark.parametrize('name, packages', [
+    ('libgcc', 'libgcc-12-dev gcc-12-aarch64-linux-gnu gcc-mingw-w64-x86-64-posix'),
+    ('glibc', 'libc6-dev libc6-dev-arm64-cross'), ('mingw-w64', 'mingw-w64-x86-64-dev')])
+def test_the_spdx_file_has_the_versions_with_which_release_was_linked(name, packages):
+    linked = dict(re.findall(r'(\S+)=([\d.]+)', re.search('^# packages .*', read(TOP / 'release/MANIFEST'), re.M)[0]))
+    stated, = re.findall(rf'^PackageName: {name}\n.*\nPackageVersion: (.*)$', read(TOP / 'proved-argon2.spdx'), re.M)
+    assert {linked[package] for package in packages.split()} == {stated}
+
+
 # ---- where neither the toolchain nor the repository can be seen
 
 # Runs a script in an overlay of this system, which is discarded afterwards.
