@@ -20,25 +20,18 @@ find_sources() {
 }
 
 # The hash of files, and of those in folders, with their names and contents: `sum_files PATH..` leaves it in `sum`.
-# (CMake's files there link and test what is built, and change no byte of it.)
 sum_files() {
-    case " $*" in *\ -*) why="$* names an option of find" && return 1 ;; esac
-    sum=$(cd "$root" && find "$@" ! -type d ! -name CMakeLists.txt ! -name '*.cmake' -exec sha256sum -- {} + \
-        | LC_ALL=C sort -k 2 | sha256sum) && sum=${sum%% *}
+    sum=$(cd "$root" && find "$@" ! -type d -exec sha256sum {} + | LC_ALL=C sort -k 2 | sha256sum) && sum=${sum%% *}
 }
 
 # A machine of build/machines.txt, by its name or a build's: `find_machine NAME` leaves its values in `machine`,
 # `number`, `target`, `tool_prefix`, `base` and `builds`, the builds that the toolchain makes in `proved`, and the
-# others in `kernels`. All of them become parts of commands, so none may be an option or a path.
+# others in `kernels`.
 find_machine() {
     while read -r machine number target tool_prefix base builds; do
         case $machine:" $machine $builds " in
         [#+]*) ;;
         *" $1 "*)
-            why="build/machines.txt has more than words for $1"
-            case "$machine $number $target $base $builds $tool_prefix" in
-            -* | *\ -[!\ ]* | *[!A-Za-z0-9_.:+\ -]*) return 1 ;;
-            esac
             tool_prefix=${tool_prefix#-} base=${base%:} proved=${builds%% + *} kernels=''
             [ "$proved" = "$builds" ] || kernels=${builds#* + } builds="$proved $kernels"
             return
@@ -65,29 +58,6 @@ tool_packages='binaryen binutils binutils-aarch64-linux-gnu binutils-mingw-w64-x
 list_packages() {
     # shellcheck disable=SC2086 # they are words
     (. /etc/os-release && printf %s "$VERSION_CODENAME") && dpkg-query -Wf ' ${Package}=${Version}' $tool_packages
-}
-
-# Whether release/MANIFEST names that release of Debian and each of these packages with a version, and nothing else.
-# build/release installs what the line names, as root, so an option or another package there would be a command.
-names_packages() {
-    why='release/MANIFEST: "# packages" has other words than build/current.sh allows' form="# packages $debian"
-    for package in $tool_packages; do form="$form $package=[0-9]([0-9A-Za-z.+:~-]*[0-9A-Za-z])?"; done
-    [ "$(grep -ac '^# packages' "$root/release/MANIFEST")" = 1 ] \
-        && LC_ALL=C grep -aqxE "$form" "$root/release/MANIFEST"
-}
-
-# The version, into `version`. It becomes part of commands, scripts and file names, so it is digits and dots.
-read_version() {
-    version=$(cat "$root/VERSION") why='VERSION is no version'
-    case $version in '' | *[!0123456789.]*) return 1 ;; esac
-}
-
-# The project's address, into `address`. It becomes part of scripts and of files that name flags of programs, so it is
-# one plain word.
-read_address() {
-    address=$(sed -n 's/^Address: //p' "$root/PROJECT") why='PROJECT has no plain address'
-    case $address in https://[!/]*) ;; *) return 1 ;; esac
-    case ${address#https:} in *[!A-Za-z0-9._/-]*) return 1 ;; esac
 }
 
 # ---- what is built here
@@ -140,17 +110,20 @@ is_built() {
 # ---- release/
 
 # What a folder of release/ is built from beside proved crates, by the toolchain alone or by a C compiler too:
-# `others_of FOLDER` leaves the paths in `others`.
+# `others_of FOLDER` leaves the files in `others`.
 others_of() {
-    others='build/add_kernel build/link_wasm build/machines.txt bindings/kernels bindings/wasm/instance.s'
-    case $1:$(sed -n "s/^$1 .*/machine/p" "$root/build/machines.txt") in
-    portable:) others="$others build/translate bindings/portable/translate.py" ;;
-    windows-x86_64: | *:machine)
-        others="$others VERSION build/link build/write_coff build/library.map bindings/c/include bindings/c/src
-            bindings/javascript/addon bindings/shell/words.c
-            $(cd "$root" && echo bindings/libargon2/*.[chm]* bindings/windows/*.c)"
+    others='build/add_kernel build/link_wasm build/machines.txt bindings/kernels/*.c bindings/wasm/instance.s'
+    find_machines
+    case " windows-x86_64 $machines " in
+    *" $1 "*)
+        others="$others VERSION build/link build/write_coff build/library.map bindings/c/include/*.h
+            bindings/c/src/*.[ch] bindings/javascript/addon/*.[ch] bindings/shell/words.c
+            bindings/libargon2/*.[chm]* bindings/windows/*.c"
         ;;
+    *) [ "$1" != portable ] || others="$others build/translate bindings/portable/translate.py" ;;
     esac
+    # shellcheck disable=SC2086 # they are words and patterns
+    others=$(cd "$root" && echo $others)
 }
 
 # The hash of everything a folder of release/ is built from: `sum_part FOLDER`.
@@ -183,9 +156,8 @@ lacks_unlicensed() {
     [ -z "$tracked" ]
 }
 
-# Whether a file of release/, or a folder's content, is as the manifest names it: `is_listed PART`. `uniq -u` drops what
-# the list and the files' sums share. A NUL ends each entry, since names may contain blanks and line ends. The first
-# entry, `-  -`, stays alone if all is well, and is missing if a command could not run.
+# Whether a file of release/, or a folder's content, is as the manifest names it, with nothing else in it: `is_listed
+# PART`.
 is_listed() {
     why="release/MANIFEST names no file of $1"
     listed=$(grep -E "^[^#].*  $1(/|\$)" "$root/release/MANIFEST") || return
@@ -193,14 +165,13 @@ is_listed() {
         why="release/$1 is in no archive of the sources: see NOTICE"
         listed=$(printf '%s\n' "$listed" | grep -vE "  $unlicensed\$") || return
     fi
-    other=$(cd "$root/release" && { printf '%s\n' '-  -' "$listed" | sort -u | tr '\n' '\0' && find "$1" \( -type f \
-        -exec sha256sum -z -- {} + \) -o ! -type d -printf '-  %p\0' 2>/dev/null; } | LC_ALL=C sort -z -k 2 \
-        | LC_ALL=C uniq -zu | tr '\n\0' '?\n')
-    [ "$other" != '-  -' ] || return 0
-    other=$(printf '%s\n' "$other" | sed -n '2s/^[^ ]*  //p')
-    case $listed in
-    *"  $other"*) why="release/$other is not the file that release/MANIFEST names: it was changed, or is not there" ;;
-    *) why="release/MANIFEST does not name $other" ;;
-    esac
+    names=$(printf '%s\n' "$listed" | sed 's/^[^ ]*  //' | LC_ALL=C sort)
+    found=$(cd "$root/release" && find "$1" ! -type d 2>/dev/null | LC_ALL=C sort)
+    other=$(printf '%s\n' "$names" "$found" | LC_ALL=C sort | uniq -u | grep -m 1 .)
+    why="release/$other is not the file that release/MANIFEST names: it is not there"
+    case $found in *"$other"*) why="release/MANIFEST does not name $other" ;; esac
+    [ "$names" = "$found" ] || return
+    why=$(cd "$root/release" && printf '%s\n' "$listed" | LC_ALL=C sha256sum --check --strict --quiet 2>&1) && return
+    why="release/${why%%: FAILED*} is not the file that release/MANIFEST names"
     return 1
 }

@@ -43,6 +43,13 @@ def test_lemma_files_begin_with_a_comment():
     assert lemmas and not [name for name in lemmas if not read(name).startswith('-- ')]
 
 
+def test_each_character_can_be_seen():
+    """A diff does not show signs of the direction of text, or characters without a width. (The vectors need two.)"""
+    signs = r'(?![\t\n\x01])\p{C}|\p{DI}|(?![ \x{A0}])\p{Z}'
+    came = run('env', 'LC_ALL=C.UTF-8', 'git', 'grep', '-lIP', signs, '--', '.')
+    assert came.returncode == 1, came.stdout
+
+
 def test_files_outside_of_ci_do_not_name_it():
     """Except pages, the marks of parts that its scripts write, and the tests that a release has to pass."""
     outside = [name for name in files() if not re.match(r'\.ci/|docs/|release/|setup\.cfg|.*\.md$', name)]

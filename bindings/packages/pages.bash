@@ -1,10 +1,11 @@
 # shellcheck shell=bash disable=SC2154 # the variables are those of ./install and debian/papers
-# How ./install and debian/papers ship pages of the repository. They source it, with the repository's `root` and the
-# project's `address` (build/current.sh).
+# How ./install and debian/papers ship pages of the repository. They source it, with the repository's `root`.
+
+# The project's address.
+address=$(sed -n 's/^Address: //p' "$root/PROJECT")
 
 # Copies pages, below the folder at their paths here: `ship_pages FOLDER PAGE..`. A relative link stays if it leads to
-# another of these pages, and else leads to the project's address. The link becomes part of a script of sed, so one with
-# other than plain characters stays as it is.
+# another of these pages, and else leads to the project's address. One with other than plain characters stays as it is.
 ship_pages() {
     local to=$1 page path link text
     shift
