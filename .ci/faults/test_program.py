@@ -29,7 +29,7 @@ NO_TEXT, SHORT_SALT = (2, '', 'Decoding failed\n'), (2, '', 'Salt is too short\n
 # The tool adds these words to some lines.
 ADDED = re.compile(
     rf'(?<=^{USAGE[2]})(.*see --help|.*an argument is not UTF-8)\n$|(?<=^{NO_TEXT[2]}).*quotes\n$'
-    rf'|(?<=^{ABOVE[2]}).* 2 GiB, 10 passes, 16 lanes and the work of 4 GiB in one pass\n$')
+    rf'|(?<=^{ABOVE[2]}).* at most .*\n$')
 # Hashes of two lanes, of one lane (its encoded hash is stored), and with a salt that is no text.
 TWO, ONE = Hash('argon2d', 19, 2, 256, 2, 32, salt=b'somesalt'), Hash('argon2i', 19, 2, 256, 1, 32)
 NO_WORD = Hash('argon2id', 19, 1, 8, 1, 16, 0, bytes(range(240, 256)))
