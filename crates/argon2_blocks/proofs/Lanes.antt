@@ -154,7 +154,8 @@ abbrev twos : ℕ → ℕ
 twos zero = zero
 twos (suc n) = suc (suc (twos n))
 
--- if f grows by a factor of 2 ^ 64 per 64-bit word, f of n words is below (2 ^ 64) ^ n
+-- if a word in front makes f less than 2 ^ 64 + 2 ^ 64 times f of the others, and f of none is 0, f of n words below
+-- 2 ^ 64 is below (2 ^ 64) ^ n
 fits_words : (f : List ℕ → ℕ) → f [] ≡ 0 → ((x : ℕ) (xs : List ℕ) → x < 2 ^ 64 → f (x ∷ xs) < 2 ^ 64 + 2 ^ 64 * f xs) →
     (xs : List ℕ) → Each1 (λ a. a < 2 ^ 64) xs → f xs < (2 ^ 64) ^ length xs
 fits_words f none more [] h = rw none (omega arith)
