@@ -16,7 +16,7 @@ SHIFTS = {'lsl': left, 'lsr': right, 'ror': rotated}
 
 
 class Arm64(Machine):
-    arguments, stack_pointer = tuple(f'x{number}' for number in range(5)), 'sp'
+    arguments, stack_pointer = tuple(f'x{number}' for number in range(6)), 'sp'
     saved, entries = (*(f'x{number}' for number in range(19, 30)), *(f'd{number}' for number in range(8, 16))), \
         (0, 16, 32, 48)
 
@@ -168,6 +168,8 @@ def control(mnemonic, words):
             return jump_if_zero(name == 'cbz', *sources)
         case 'cmp', 2:
             return lambda machine: machine.compare(*(source(machine) for source in sources))
+        case 'cset', 2:
+            return lambda machine: operand(words[0])[1](machine, int(machine.holds(CONDITIONS.get(words[1]))))
         case 'cinv', 3:
             return inverted_if(CONDITIONS.get(words[2]), sources[1], operand(words[0])[1])
         case 'movk', (2 | 3):

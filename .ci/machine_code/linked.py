@@ -37,6 +37,8 @@ JUMP = re.compile(r'(?:[\w.]+ +)*(?:call|j\w+|loop\w*|xbegin|bl?(?:\.\w+)?|[ct]b
 # How segments of code and of constants are mapped; the same of a DLL's sections (Microsoft's "PE Format").
 CODE, CONSTANTS = P_FLAGS.PF_R | P_FLAGS.PF_X, P_FLAGS.PF_R
 EXECUTABLE, WRITABLE = 0x20000000, 0x80000000
+# What fills a block for C, and may prefetch the next one's reference.
+AHEAD = 'proved_argon2_fill_ahead'
 # The instructions that multiply 32-bit numbers in vectors: no others make blocks as fast.
 MULTIPLIES = re.compile(r'v?pmulu?dq |vpmullq |vpmadd52|[us]m(?:ul|la|ls)l2?\tv\d+\.2d')
 
@@ -93,10 +95,12 @@ class Code:
             raise Fault(f'it jumps to or calls {", ".join(map(hex, sorted(astray)))}, where no instruction begins')
 
     def calls(self, begin):
-        """Returns how many instructions call a function. A jump behind the end of another function is no call: ld puts
-        such a jump, which nothing reaches, in front of its workaround for a fault of the Cortex-A53 (843419)."""
+        """Returns how many instructions call a function, except for those of AHEAD, which in some builds only call it.
+        A jump behind the end of another function is no call: ld puts such a jump, which nothing reaches, in front of
+        its workaround for a fault of the Cortex-A53 (843419)."""
         call = re.compile(rf'(?:call|jmp|bl?)\s+{begin:#x}')
-        texts = [text for text, _ in self.instructions.values()]
+        texts = [text for at, body in self.bodies.items() if not self.names[at].endswith(f'::{AHEAD}')
+                 for text, _ in body.values()]
         return sum(bool(call.fullmatch(text)) and (before, text[:2]) != ('ret', 'b\t')
                    for before, text in pairwise(['', *texts]))
 

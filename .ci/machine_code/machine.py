@@ -23,6 +23,7 @@ class Machine:
     def __init__(self, code, regions, written, entry):
         self.code, self.regions, self.written, self.end = code, regions, written, entry + self.own_of_caller
         self.memory, self.flags, self.after, self.met, self.constants, self.below = {}, None, 0, set(), set(), 0
+        self.prefetched = []
         self.registers = {**self.fresh('first'), self.stack_pointer: STACK + entry}
         self.before = {**self.registers, self.stack_pointer: STACK + self.end}
 
@@ -152,6 +153,16 @@ def register(name, mask):
 def computed(function, sources, target):
     """The step that writes what a function makes of operands."""
     return lambda machine: target(machine, function(*(source(machine) for source in sources)))
+
+
+def picked_if(condition, source, target):
+    """Writes an operand if a condition holds. If that depends on data, nothing is known of the result."""
+    def step(machine):
+        if machine.flags is None:
+            target(machine, variable(f'picked at {machine.after}'))
+        elif machine.holds(condition):
+            target(machine, source(machine))
+    return step
 
 
 def jump_if(condition, to):

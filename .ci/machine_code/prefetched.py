@@ -2,15 +2,11 @@
 that block and a return, or of a return alone, so it changes nothing and no result depends on it."""
 
 import re
-from itertools import pairwise
-
-from linked import require, run
 
 NAME = 'argon2_c::prefetching::proved_argon2_expect'
 # The names under which a file has calls for C.
 OF_C = re.compile(r'proved_\w+_job_hash_over')
 PREFETCH = re.compile(r'prefetcht0 BYTE PTR \[rdi(?:\+(0x[0-9a-f]+))?\]|prfm\tpldl1keep, \[x0(?:, #(\d+))?\]')
-EXPORT = re.compile(r' - func\[(\d+)\].* -> "proved_argon2_expect"')
 # Its instructions in a module, where it first asks whether the stack has room.
 IN_MODULE = ['block', 'global.get 0', 'i64.const 16', 'i64.lt_s', 'br_if 0', 'i64.const 0', 'return', 'end',
              'unreachable', 'end']
@@ -36,22 +32,20 @@ def faults_of_body(texts, idle):
 
 def faults_of_module(module):
     """WebAssembly has no prefetch. What is exported passes its argument on to the function that the others call."""
-    numbers = EXPORT.findall(run(require('wasm-objdump'), '-x', module.path))
-    for number in numbers:
-        texts = [text for text, _ in module.bodies[number].values()]
-        if texts == IN_MODULE:
-            return []
-        numbers += [text.removeprefix('call ') for before, text in pairwise(texts)
-                    if before == 'local.get 0' and text.startswith('call ')]
-    return ['it does more than prefetch']
+    bodies = [[text for text, _ in module.bodies[number].values()] for number in module.behind('proved_argon2_expect')]
+    return [] if IN_MODULE in bodies[-1:] else ['it does more than prefetch']
+
+
+def builds_for_c(code, builds):
+    """The builds of a file that has calls for C, as each module has."""
+    return builds if not hasattr(code, 'names') or any(map(OF_C.fullmatch, code.names.values())) else []
 
 
 def faults_of_prefetches(code, builds, idle):
     """What is wrong with the function in a file, for each of its builds if the file has calls for C."""
     if not hasattr(code, 'names'):
         return faults_of_module(code)
-    expected = len(builds) if any(map(OF_C.fullmatch, code.names.values())) else 0
     bodies = [[text for text, _ in code.bodies[begin].values()] for begin in begins(code)]
-    if len(bodies) != expected:
+    if len(bodies) != len(builds_for_c(code, builds)):
         return [f'{NAME} is there {len(bodies)} times']
     return [f'{NAME}: {fault}' for texts in bodies for fault in faults_of_body(texts, idle)]

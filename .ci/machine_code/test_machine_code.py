@@ -1,23 +1,28 @@
 """Translation validation of release/: the machine code of the compression computes G of RFC 9106, and that of BLAKE2b's
 compression F of RFC 7693, for all inputs, in each file and each build. Neither branches on anything except the flag
 that it is passed, computes an address from data, accesses memory except its arguments, constants and own frame, or
-changes registers that it may not. F clears its working vector.
+changes registers that it may not. F clears its working vector. What fills a block for C, and in one build prefetches
+the next one's reference, has to compute G too, and may compute addresses of prefetches from data.
 
 The code, as binutils and wabt disassemble it, runs on terms instead of numbers. Its results have to be the terms of the
 definitions. An unknown instruction, or form of one, fails by name.
 """
 
+import random
 import re
 
 import pytest
 import rfc7693
 import rfc9106
+from linked import AHEAD
 from shared import TOP
-from validated import faults_of
+from terms import BITS
+from validated import FLAGS, FUNCTIONS, code_of, faults_of
 
 LISTED = re.findall(r'^[0-9a-f]{64}  (\S+)$', (TOP / 'release/MANIFEST').read_text(encoding='utf-8'), re.M)
 # (an import library has no code but jumps)
 FILES = [name for name in LISTED if not re.search(r'\.([ch]|dll\.a)$', name)]
+PLACES, BLOCK, LINE = 30, 1024, 64  # (drawn for a test; in bytes)
 
 
 def test_the_definitions():
@@ -28,3 +33,31 @@ def test_the_definitions():
 @pytest.mark.parametrize('name', FILES)
 def test_machine_code(name):
     assert not faults_of(TOP / 'release' / name)
+
+
+def drawn_place():
+    """A setting of one lane, and a pass, slice and index, behind which the segment has a block. (In the first slice of
+    pass 0, few blocks are before the index.)"""
+    segment, r = random.choice((2, 3, 100, 1 << 12)), random.randrange(3)
+    setting = rfc9106.Setting(rfc9106.D, 19, r + 1, 4 * segment, 1, 32, b'', b'')
+    return setting, r, random.randrange(0 if r else 1, 4), random.randrange(segment - 1)
+
+
+@pytest.mark.parametrize('flag', FLAGS)
+def test_what_is_prefetched_is_the_next_reference(flag):
+    """It is the block that RFC 9106's mapping (3.4.2) picks by the first word of the new block."""
+    code = code_of(TOP / 'release/x86_64/libproved_argon2.a')
+    function = next(function for function in FUNCTIONS if function.name == AHEAD)
+    met = [0 for _ in code.begins(function)]
+    for build, begin in enumerate(code.begins(function)):
+        for _ in range(PLACES):
+            setting, r, s, index = drawn_place()
+            column, size = s * setting.segment + index, len(setting.reference_set(r, s, index + 1, True))
+            machine, fault = function.run(code, begin, flag, code.kind.entries[0], lambda: random.getrandbits(BITS),
+                                          [size, column + (setting.columns << BITS // 2)])
+            *_, at = setting.reference(r, 0, s, index + 1, machine.word_at('next', 0))
+            lines = [('next', BLOCK * (at - column) + place) for place in range(0, BLOCK, LINE)]
+            assert not fault
+            assert [*map(machine.find, machine.prefetched)] in ([], lines), (r, s, index, size, column)
+            met[build] += bool(machine.prefetched)
+    assert sorted(met) == [0] * (len(met) - 1) + [PLACES]

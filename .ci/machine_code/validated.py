@@ -1,4 +1,4 @@
-"""The two functions, their definitions (crates/argon2_vectors), and a run of one on terms."""
+"""The functions, their definitions (crates/argon2_vectors), and a run of one on terms."""
 
 import re
 from dataclasses import dataclass
@@ -6,16 +6,16 @@ from typing import Callable
 
 import rfc7693
 import rfc9106
-from linked import Code
+from linked import AHEAD, Code
 from machine import WORD
 from machines import machines
-from prefetched import faults_of_prefetches
+from prefetched import builds_for_c, faults_of_prefetches
 from terms import Fault, variable
 from wasm import Module
 
 
-def compressed_block(flag, prev, reference, old):
-    """G (RFC 9106, 3.5), to which the old block is added if the flag is set."""
+def compressed_block(flag, prev, reference, old, _ahead=None):
+    """G (RFC 9106, 3.5), to which the old block is added if the flag is set, whatever the other words are."""
     block = rfc9106.compress(prev, reference)
     return [one ^ other for one, other in zip(block, old)] if flag else block
 
@@ -29,7 +29,7 @@ def compressed_state(flag, h, m, counter):
 class Function:
     """A function's name; what it is passed before the flag: regions of memory, by their sizes in words, and words; what
     it leaves in one of the regions; and how many words of its own frame it clears. In a module, which may have no
-    names, certain instructions identify it. In each build, this many instructions call it."""
+    names, certain instructions identify it, or else its export. In each build, this many instructions call it."""
     name: str
     regions: dict
     words: tuple
@@ -39,8 +39,9 @@ class Function:
     only: tuple
     calls: int
 
-    def run(self, code, begin, flag, entry, values=None):
-        """Runs over values, or else a variable for each word; returns the machine, and what is wrong or None."""
+    def run(self, code, begin, flag, entry, values=None, numbers=()):
+        """Runs over values, or else a variable for each word; returns the machine, and what is wrong or None. The words
+        that it is passed may be numbers."""
         sizes = {name: WORD * size for name, size in self.regions.items()}
         machine = code.kind(code, sizes, self.written, entry)
         regions = {name: [variable(f'{name}{index}') for index in range(size)] for name, size in self.regions.items()}
@@ -50,6 +51,7 @@ class Function:
                               [values() for _ in words])
             machine.memory = {(name, WORD * at): word
                               for name, region in regions.items() for at, word in enumerate(region)}
+        words = numbers or words
         try:
             machine.run(machine.enter(begin, *map(variable, regions), *words, flag=flag))
             defined = self.definition(flag, *regions.values(), *([words] if words else []))
@@ -62,6 +64,8 @@ class Function:
 FUNCTIONS = (
     Function('fill_words', {'prev': 128, 'reference': 128, 'next': 128}, (), 'next', compressed_block, 0,
              ('i64.mul', 'i64.rotl'), 6),
+    Function(AHEAD, {'prev': 128, 'reference': 128, 'next': 128}, ('size', 'columns'), 'next', compressed_block, 0,
+             (), 3),
     Function('compress_f', {'h': 8, 'm': 16}, ('low', 'high'), 'h', compressed_state, 16,
              (f'i64.const {rfc7693.IV[4]}', 'i64.rotl'), 3))
 FLAGS = 0, 1
@@ -98,6 +102,11 @@ def faults_of_function(code, function, begin):
     return [f'{function.name} at {begin}: {fault}' for fault in faults], met
 
 
+def builds_with(function, path, code):
+    """The builds of a file that have a function."""
+    return builds_for_c(code, builds_of(path)) if function.name == AHEAD else builds_of(path)
+
+
 def faults_of(path):
     """Returns what is wrong in a file with these functions and that which prefetches, for each build of its machine."""
     try:
@@ -106,10 +115,11 @@ def faults_of(path):
     except Fault as fault:
         return [str(fault)]
     places = [(function, begin) for function in FUNCTIONS for begin in code.begins(function)]
-    counts = [len(code.begins(function)) for function in FUNCTIONS]
+    missing = [function.name for function in FUNCTIONS
+               if len(code.begins(function)) != len(builds_with(function, path, code))]
     came = [faults_of_function(code, *place) for place in places]
     others = code.multiplications().difference(*(met for _, met in came))
     return [*(fault for faults, _ in came for fault in faults),
-            *(f'the functions are there {count} times' for count in counts if count != len(builds_of(path))),
+            *(f'{name} is not there once in each build' for name in missing),
             *(f'something else multiplies as they do: {code.instructions[at][0]}' for at in others),
             *faults_of_prefetches(code, builds_of(path), IDLE)]

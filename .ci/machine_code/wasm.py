@@ -2,8 +2,9 @@
 
 import functools
 import re
+from itertools import pairwise
 
-from linked import require, run
+from linked import AHEAD, require, run
 from machine import RETURN, Machine, add, known, left, right
 from rfc9106 import MASK, rotated
 from terms import BITS, Fault, variable
@@ -26,6 +27,7 @@ class Module:
     def __init__(self, path):
         self.kind, self.path, self.content = Wasm, path, path.read_bytes()
         lines = run(require('wasm-objdump'), '-x', '-d', path).split('\n')
+        self.exports = '\n'.join(line for line in lines if ' -> "' in line)
         counts = {found[1]: len(found[2].split()) for found in map(TYPE.fullmatch, lines) if found}
         self.arguments = {found[1]: counts[found[2]] for found in map(SIGNATURE.match, lines) if found}
         self.bodies, body, at = {}, {}, 0
@@ -64,8 +66,17 @@ class Module:
         run('wasm-validate', '--enable-memory64', '--enable-threads', self.path)
 
     def calls(self, number):
-        """Returns how many instructions call a function."""
-        return [text for text, *_ in self.instructions.values()].count(f'call {number}')
+        """Returns how many instructions call a function, except for those of AHEAD, which only calls it."""
+        return sum(text == f'call {number}' for at, body in self.bodies.items() if at not in self.behind(AHEAD)[-1:]
+                   for text, _ in body.values())
+
+    def behind(self, export):
+        """The functions that an exported one leads to, itself first: each passes its last argument on to the next."""
+        numbers = re.findall(rf' - func\[(\d+)\].* -> "{export}"', self.exports)
+        for number in numbers:
+            numbers += [text.removeprefix('call ') for (before, _), (text, _) in pairwise(self.bodies[number].values())
+                        if before.startswith('local.get ') and text.startswith('call ')]
+        return numbers
 
     def multiplications(self):
         """The instructions with which blocks can be made."""
@@ -73,9 +84,10 @@ class Module:
         return set().union(*(places for places in found if len(places) > MANY))
 
     def begins(self, function):
-        """The functions with the instructions (`only`) that identify this one."""
+        """The functions with the instructions (`only`) that identify this one, or that its export leads to."""
         return [number for number, body in self.bodies.items()
-                if {*function.only} <= {text for text, _ in body.values()}]
+                if {*function.only} <= {text for text, _ in body.values()}] if function.only else \
+            self.behind(function.name)[-1:]
 
 
 def led(body):
@@ -187,6 +199,7 @@ OPERATIONS = {
     'i64.lt_s': (2, lambda machine, x, y: machine.lacks_stack(y, x)),
     'i64.lt_u': (2, lambda machine, x, y: machine.compared(y, x, 'b')),
     'i64.gt_u': (2, lambda machine, x, y: machine.compared(y, x, 'a')),
+    'i32.ne': (2, lambda machine, x, y: machine.compared(y, x, 'ne')),
     **dict.fromkeys(('i64.eqz', 'i32.eqz'), (1, lambda machine, x: machine.compared(0, x, 'e'))),
     'i32.wrap_i64': (1, Wasm.cut), 'i32.add': (2, lambda machine, x, y: machine.cut(add(x, y))),
     'i64.load': (1, lambda machine, address, offset: machine.load(add(address, offset), 1)[0]),

@@ -5,16 +5,17 @@ import functools
 import re
 from itertools import chain
 
-from machine import (CONDITIONS, RETURN, WORD, Machine, add, computed, each, half_known, jump_if, left, parts,
-                     register, right)
+from machine import (CONDITIONS, RETURN, WORD, Machine, add, computed, each, half_known, jump_if, known, left, parts,
+                     picked_if, register, right)
 from rfc9106 import MASK, rotated
 from terms import BITS, Fault, picked, variable
 
 OLD = 'ax', 'bx', 'cx', 'dx', 'si', 'di', 'bp', 'sp'
-# The registers for integers, the names of their lower halves; those for vectors, how many of them are older than
-# AVX-512, and how many words one has; and sizes in words.
+# The registers for integers, the names of their lower halves and of some lowest bytes; those for vectors, how many of
+# them are older than AVX-512, and how many words one has; and sizes in words.
 WHOLE = [f'r{name}' for name in (*OLD, *range(8, 16))]
 LOWER = dict(zip([*(f'e{name}' for name in OLD), *(f'r{number}d' for number in range(8, 16))], WHOLE))
+LOWEST = dict(zip(('al', 'bl', 'cl', 'dl', 'sil', 'dil'), WHOLE))
 VECTORS, OF_VEX, WIDEST = [f'mm{number}' for number in range(32)], 16, 8
 SIZES = {'x': 2, 'y': 4, 'z': 8, 'QWORD': 1, 'XMMWORD': 2, 'YMMWORD': 4, 'ZMMWORD': 8}
 PLACE = re.compile(r'(?:(\w+) PTR )?\[(\w+)(?:\+(\w+)\*(\d))?([+-]0x[0-9a-f]+)?\]')
@@ -22,7 +23,7 @@ LOW, NAMES_OF_LOW = (1 << 32) - 1, {'mov', 'add', 'sub', 'xor', 'cmp', 'test'}
 
 
 class X86(Machine):
-    arguments, stack_pointer, own_of_caller = ('rdi', 'rsi', 'rdx', 'rcx', 'r8'), 'rsp', WORD
+    arguments, stack_pointer, own_of_caller = ('rdi', 'rsi', 'rdx', 'rcx', 'r8', 'r9'), 'rsp', WORD
     saved, entries = ('rbx', 'rbp', 'r12', 'r13', 'r14', 'r15'), (8, 24, 40, 56)
 
     @staticmethod
@@ -66,6 +67,13 @@ def vector(name, size, keeps_rest):
     return (lambda machine: machine.registers[name][:size]), write
 
 
+def lowest_byte(name):
+    """Returns what writes the lowest byte of a number, whose other bits stay."""
+    def write(machine, byte):
+        machine.registers[name] = known(machine.registers[name], 'it writes a part of data') & ~0xff | byte
+    return write
+
+
 def address(base, index, scale, offset):
     """Returns what reads the address of a place in memory."""
     offset = int(offset or '0', 16)
@@ -85,6 +93,8 @@ def operand(text, mnemonic):
     """Returns what reads an operand, and what writes it."""
     if text in WHOLE or text in LOWER and mnemonic in NAMES_OF_LOW:
         return register(LOWER.get(text, text), LOW if text in LOWER else MASK)
+    if text in LOWEST and mnemonic.startswith('set'):
+        return None, lowest_byte(LOWEST[text])
     if text[1:] in VECTORS and text[0] in SIZES:
         return vector(text[1:], SIZES[text[0]], not mnemonic.startswith('v'))
     if re.fullmatch(r'0x[0-9a-f]+|\d', text):
@@ -176,9 +186,10 @@ FROM = {
     'vprolq': each(lambda word, count: rotated(word, -count % BITS)),
     'vpermd': lambda order, words: picked(words, places(order, 32, 2 * len(words)), 32)}
 VECTOR = FROM | ONTO | {f'v{name}': function for name, function in (FROM | ONTO).items() if name[0] != 'v'}
-PLAIN = {**dict.fromkeys(('mov', 'movabs', 'lea'), lambda x: x), 'rorx': lambda x, count: rotated(x, below_size(count))}
+PLAIN = {**dict.fromkeys(('mov', 'movabs', 'lea'), lambda x: x), 'rorx': lambda x, count: rotated(x, below_size(count)),
+         'vpextrq': lambda words, place: words[place]}
 WITH_FLAGS = {
-    'add': add, 'sub': lambda x, y: x - y & MASK, 'xor': lambda x, y: x ^ y,
+    'add': add, 'sub': lambda x, y: x - y & MASK, 'xor': lambda x, y: x ^ y, 'imul': lambda x, y: x * y & MASK,
     'shl': lambda x, count: left(x, below_size(count)), 'shr': lambda x, count: right(x, below_size(count)),
     'shld': lambda x, y, count: left(x, below_size(count)) | right(y, BITS - count)}
 
@@ -196,6 +207,20 @@ def call(to):
         machine.push(machine.after)
         return to(machine)
     return step
+
+
+def leave(machine):
+    machine.registers['rsp'] = machine.registers['rbp']
+    machine.registers['rbp'] = machine.pop()
+
+
+def prefetch(text):
+    """Takes note of an address, which may be computed from data."""
+    found = PLACE.fullmatch(text)
+    if not found:
+        raise Fault(f'the operand {text} of a prefetch is not known')
+    at = address(*found.groups()[1:])
+    return lambda machine: machine.prefetched.append(at(machine))
 
 
 def clear_upper(machine):
@@ -224,10 +249,14 @@ def control(mnemonic, sources, target):
             return X86.pop
         case 'vzeroupper', 0:
             return clear_upper
+        case 'leave', 0:
+            return leave
     if mnemonic[:1] == 'j' and mnemonic[1:] in CONDITIONS:
         return jump_if(mnemonic[1:], sources[0])
+    if mnemonic[:3] == 'set' and mnemonic[3:] in CONDITIONS:
+        return lambda machine: target(machine, int(machine.holds(mnemonic[3:])))
     if mnemonic[:4] == 'cmov' and mnemonic[4:] in CONDITIONS:
-        return lambda machine: target(machine, sources[1](machine)) if machine.holds(mnemonic[4:]) else None
+        return picked_if(mnemonic[4:], sources[1], target)
     raise Fault(f'the instruction {mnemonic} of {len(sources)} operands is not known')
 
 
@@ -237,6 +266,8 @@ def decode(text):
     mnemonic, _, rest = text.partition(' ')
     if re.match('(data16 |cs )*(nop|endbr64)', text):
         return lambda machine: None
+    if mnemonic == 'prefetcht0':
+        return prefetch(rest)
     words = parts(rest)
     operands = [operand(word, mnemonic) for word in words]
     sources, target = [read for read, _ in operands], operands[0][1] if operands else None

@@ -1,7 +1,8 @@
 /* The compression function G for processors with AVX-512: two blocks in, one block out (RFC 9106, 3.5 and 3.6).
  *
- * build/add_kernel puts the machine code of this file in the place of the proved `fill_words` for x86-64-v3. This code
- * is not proved. Instead, its machine code is checked for all inputs (docs/CLAIMS.md).
+ * build/add_kernel puts the machine code of this file in the place of the proved functions for x86-64-v3: `fill_words`,
+ * and `proved_argon2_fill_ahead`, which also prefetches the reference of the block after next. This code is not proved.
+ * Instead, its machine code is checked for all inputs (docs/CLAIMS.md).
  *
  * The layout: a block is a square of 8 rows by 8 columns. Each place holds two words, so a row is 16 consecutive words.
  * G first permutes each row and then each column with P, which treats its 16 words as a 4 by 4 matrix: a has words 0 to
@@ -22,11 +23,14 @@
  * Each step handles all four groups of vectors before the next step begins. The steps of a single group depend on each
  * other, so handling one group after another takes 1.5 times as long. */
 #include <immintrin.h>
+#include <stddef.h>
 #include <stdint.h>
 
 typedef __m512i vector;
 
-enum { GROUPS = 4, WORDS = 8, TWO_ROWS = GROUPS * WORDS };
+enum { GROUPS = 4, WORDS = 8, TWO_ROWS = GROUPS * WORDS, BLOCK = 128 * sizeof(uint64_t), LINE = 64, QUARTERS = 4 };
+/* So many groups of columns are so many quarters of G ahead of the others, where word 0 is wanted early. */
+enum { LEADING = 2, LEAD = 2 };
 
 #define INLINED static inline __attribute__((always_inline))
 #define SUM(x, y) _mm512_xor_si512(x, y)
@@ -54,31 +58,35 @@ INLINED vector places(uint64_t bytes)
     return _mm512_cvtepu8_epi64(_mm_cvtsi64_si128((long long)bytes));
 }
 
-INLINED void multiply_add(vector *x, const vector *y)
+/* A quarter of G in the groups `from` to `to` - 1: multiplies and adds to x, and rotates the sum of that and z. */
+INLINED void quarter(vector *x, const vector *y, vector *z, const int count, const int from, const int to)
 {
-    for (int i = 0; i < GROUPS; i++) {
+    for (int i = from; i < to; i++) {
         const vector product = _mm512_mul_epu32(x[i], y[i]);
         x[i] = _mm512_add_epi64(_mm512_add_epi64(x[i], y[i]), _mm512_add_epi64(product, product));
     }
+    for (int i = from; i < to; i++) {
+        z[i] = _mm512_ror_epi64(SUM(z[i], x[i]), count);
+    }
 }
 
-INLINED void rotate_sum(vector *x, const vector *y, const int count)
+/* The quarter of G with number `at`. */
+INLINED void mix_in_part(vector *a, vector *b, vector *c, vector *d, const int at, const int from, const int to)
 {
-    for (int i = 0; i < GROUPS; i++) {
-        x[i] = _mm512_ror_epi64(SUM(x[i], y[i]), count);
+    switch (at % QUARTERS) {
+    case 0: quarter(a, b, d, 32, from, to); break;
+    case 1: quarter(c, d, b, 24, from, to); break;
+    case 2: quarter(a, b, d, 16, from, to); break;
+    default: quarter(c, d, b, 63, from, to);
     }
 }
 
 INLINED void mix(vector *a, vector *b, vector *c, vector *d)
 {
-    multiply_add(a, b);
-    rotate_sum(d, a, 32);
-    multiply_add(c, d);
-    rotate_sum(b, c, 24);
-    multiply_add(a, b);
-    rotate_sum(d, a, 16);
-    multiply_add(c, d);
-    rotate_sum(b, c, 63);
+    _Pragma("GCC unroll 4") for (int at = 0; at < QUARTERS; at++)
+    {
+        mix_in_part(a, b, c, d, at, 0, GROUPS);
+    }
 }
 
 /* Applies P to all rows. P turns b by one place, c by two and d by three, to make columns of the diagonals. Here all
@@ -95,16 +103,55 @@ INLINED void permute_rows(vector *a, vector *b, vector *c, vector *d)
     }
 }
 
-/* Applies P to all columns, in the same way. */
-INLINED void permute_columns(vector *a, vector *b, vector *c, vector *d)
+/* What the reference of the block after next depends on, in a memory of one lane. `size` is how many blocks its
+ * reference set has. `columns` is how many the lane has before next and, in its upper half, in all. `added` is what is
+ * added to word 0 of the permuted columns to make word 0 of next. */
+typedef struct ahead {
+    const uint64_t *next;
+    uint64_t size, columns, added;
+} ahead;
+
+/* Prefetches that reference (RFC 9106, 3.4.2), given word 0 of the permuted columns. */
+INLINED void prefetch_reference(const ahead *at, uint64_t word)
 {
-    mix(a, b, c, d);
-    for (int i = 0; i < GROUPS; i++) {
+    const uint64_t low = (uint32_t)(word ^ at->added), back = at->size * (low * low >> 32) >> 32;
+    const uint64_t turn = back < (uint32_t)at->columns ? 0 : at->columns >> 32;
+    const char *const line = (const char *)((uintptr_t)at->next + BLOCK * (turn - back - 1));
+    _Pragma("GCC unroll 16") for (int i = 0; i < BLOCK / LINE; i++)
+    {
+        _mm_prefetch(line + LINE * i, _MM_HINT_T0);
+    }
+    /* Without this, gcc would prefetch last, since nothing waits for it. */
+    __asm__ volatile("");
+}
+
+/* An eighth of P, of the columns in some groups, in the same way as of rows. */
+INLINED void permute_in_part(vector *a, vector *b, vector *c, vector *d, const int at, const int from, const int to)
+{
+    if (at < 0 || at >= 2 * QUARTERS) {
+        return;
+    }
+    mix_in_part(a, b, c, d, at, from, to);
+    for (int i = from; i < to && at == QUARTERS - 1; i++) {
         a[i] = COLUMNS_BY_3(a[i]), c[i] = COLUMNS_BY_1(c[i]), d[i] = COLUMNS_BY_2(d[i]);
     }
-    mix(a, b, c, d);
-    for (int i = 0; i < GROUPS; i++) {
+    for (int i = from; i < to && at == 2 * QUARTERS - 1; i++) {
         a[i] = COLUMNS_BY_1(a[i]), c[i] = COLUMNS_BY_3(c[i]), d[i] = COLUMNS_BY_2(d[i]);
+    }
+}
+
+/* Applies P to all columns. With `at`, the first groups lead, so that word 0 is known and passed on earlier. It is then
+ * the second one of its vector, which is turned back afterwards. */
+INLINED void permute_columns(vector *a, vector *b, vector *c, vector *d, const ahead *at)
+{
+    const int leading = at ? LEADING : GROUPS, lead = at ? LEAD : 0;
+    _Pragma("GCC unroll 16") for (int step = 0; step < 2 * QUARTERS + lead; step++)
+    {
+        permute_in_part(a, b, c, d, step, 0, leading);
+        if (at && step == 2 * QUARTERS - 2) {
+            prefetch_reference(at, (uint64_t)_mm_extract_epi64(_mm512_castsi512_si128(a[0]), 1));
+        }
+        permute_in_part(a, b, c, d, step - lead, leading, GROUPS);
     }
 }
 
@@ -133,9 +180,7 @@ INLINED void write_rows(
     }
 }
 
-/* The attribute clears the vector registers that only AVX-512 has. The driver clears the others when a call ends. */
-__attribute__((zero_call_used_regs("used"))) void fill_words(
-    const uint64_t *prev, const uint64_t *reference, uint64_t *next, uint32_t with_old)
+INLINED void fill(const uint64_t *prev, const uint64_t *reference, uint64_t *next, uint32_t with_old, const ahead *at)
 {
     vector of_columns[GROUPS][4], of_rows[4][GROUPS];
     for (int i = 0; i < GROUPS; i++) {
@@ -150,8 +195,23 @@ __attribute__((zero_call_used_regs("used"))) void fill_words(
             of_columns[i][k] = of_rows[k][i];
         }
     }
-    permute_columns(of_columns[0], of_columns[1], of_columns[2], of_columns[3]);
+    permute_columns(of_columns[0], of_columns[1], of_columns[2], of_columns[3], at);
     for (int i = 0; i < GROUPS; i++) {
         write_rows(of_columns[i], prev + TWO_ROWS * i, reference + TWO_ROWS * i, next + TWO_ROWS * i, with_old);
     }
+}
+
+/* (This attribute clears the vector registers that only AVX-512 has. The driver clears the others when a call ends.) */
+#define CLEARING __attribute__((zero_call_used_regs("used")))
+
+CLEARING void fill_words(const uint64_t *prev, const uint64_t *reference, uint64_t *next, uint32_t with_old)
+{
+    fill(prev, reference, next, with_old, NULL);
+}
+
+CLEARING void proved_argon2_fill_ahead(
+    const uint64_t *prev, const uint64_t *reference, uint64_t *next, uint64_t size, uint64_t columns, uint32_t with_old)
+{
+    const ahead at = {next, size, columns, prev[0] ^ reference[0] ^ (with_old ? next[0] : 0)};
+    fill(prev, reference, next, with_old, &at);
 }

@@ -28,9 +28,9 @@ STACK_POINTER = "  (global $__stack_pointer (mut i64) (i64.const 0))\n  (global 
 # What is taken of wasm2c's files: the instance's structure, and the functions of the module.
 STRUCTURE = re.compile(r"^typedef struct Z_proved_instance_t \{.*?^\} Z_proved_instance_t;\n", re.M | re.S)
 DECLARED = re.compile(r"^}\n\n(static \w+ w2c_.*?)^static void init_globals", re.M | re.S)
-# The export that names the next block: only the proved calls make this call, and not through the export.
-UNCALLED = re.compile(r"^static u64 w2c_(?:rattle__export_)?proved_argon2_expect\([^;{]*\)(?:;\n| \{.*?^\}\n+)",
-                      re.M | re.S)
+# The exports that name the next block: only the proved calls make these calls, and not through the exports.
+UNCALLED = re.compile(r"^static u64 w2c_(?:rattle__export_)?proved_argon2_(?:expect|fill_ahead)\([^;{]*\)"
+                      r"(?:;\n| \{.*?^\}\n+)", re.M | re.S)
 DEFINED = re.compile(r"^(static \w+ w2c_\w+\([^;]*?\) \{.*?)^/\* export: ", re.M | re.S)
 BULK_TAKES = {"copy": "i64 i64 i64", "fill": "i64 i32 i64"}
 HEAD = """/* Made by bindings/portable/translate.py: the proved code, by wasm2c of the WebAssembly module. Its functions

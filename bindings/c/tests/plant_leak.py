@@ -21,6 +21,8 @@ from machines import machines  # noqa: E402
 FACE, DRIVER = TOP / 'bindings/c', TOP / 'bindings/c/src'
 FLAGS = [*'-std=gnu11 -D_GNU_SOURCE= -O2 -Wall -Wextra -Werror -pthread -I'.split(), FACE / 'include', '-I', DRIVER]
 COMPRESSION = 'argon2_blocks::block::kernel::fill_words'
+# In one build this compresses too, with the same first arguments. In the others it calls that.
+AHEAD = 'argon2_c::prefetching::proved_argon2_fill_ahead'
 # By leak: the functions, and the code that runs before them. C passes arguments in the registers named there.
 LEAKS = {
     # what overwrites bytes, words or the stack returns at once
@@ -134,6 +136,12 @@ def plant(path, function, code, to):
     Path(to).write_bytes(elf + longer)
 
 
+def places(path, function):
+    """A function, and for the compression also AHEAD if that refers to no other."""
+    is_alone = function == COMPRESSION and f' .rela.text.{AHEAD} ' not in run('readelf', '-SW', path)
+    return [function, AHEAD] if is_alone else [function]
+
+
 def plant_in_all(archive, leak, to):
     with tempfile.TemporaryDirectory() as folder:
         found = objects(archive, Path(folder, 'objects'))
@@ -148,8 +156,9 @@ def main(path, leak, to):
         plant_in_all(Path(path), leak, to)
         return
     for function, code in LEAKS[leak].items():
-        plant(path, function, code, to)
-        path = to
+        for place in places(path, function):
+            plant(path, place, code, to)
+            path = to
 
 
 if __name__ == '__main__':

@@ -1,15 +1,43 @@
 //! Which block will be read soon, for the processor.
 
-use argon2::parts::block::Block;
-use argon2_memory::segment::Expects;
+ghost use Rattle.std.specs.Prelude.{◌≡◌, ◌==◌, if◌then◌else◌};
+ghost use Rattle.argon2_blocks.specs.Standard.Block.{xor};
+ghost use Rattle.argon2_blocks.specs.Standard.Compression.{compress_g};
 
-/// Calls `proved_argon2_expect` for each block.
+use argon2::parts::block::Block;
+use argon2_blocks::block::fill_block;
+use argon2_memory::segment::{Ahead, Expects};
+
+/// Calls `proved_argon2_expect` for each block, and `proved_argon2_fill_ahead` if the next block's
+/// reference can be found ahead.
 #[derive(Clone, Copy, Debug)]
 pub struct Prefetches;
 
 impl Expects for Prefetches {
     fn expect(&self, block: &Block) {
         proved_argon2_expect(&block[0]);
+    }
+
+    fn fill(
+        &self,
+        prev: &Block,
+        reference: &Block,
+        next: &mut Block,
+        with_xor: bool,
+        ahead: Option<Ahead>,
+    ) {
+        match ahead {
+            Some(ahead) => {
+                let columns = ahead.column as u64 + ((ahead.lane_length as u64) << 32);
+                let size = ahead.size as u64;
+                if with_xor {
+                    proved_argon2_fill_ahead(prev, reference, next, size, columns, 1);
+                } else {
+                    proved_argon2_fill_ahead(prev, reference, next, size, columns, 0);
+                }
+            }
+            None => fill_block(prev, reference, next, with_xor),
+        }
     }
 }
 
@@ -21,4 +49,26 @@ pub extern "C" fn proved_argon2_expect(first: &u64) -> u64 {
     // A compiler would drop a call that only reads.
     std::hint::spin_loop();
     *first
+}
+
+/// Sets `next` as `fill_block` does. `size` is the size of the next block's reference set.
+/// `columns` is how many blocks the lane has before `next` and, in its upper half, in all. It
+/// promises nothing about what it returns, so no result depends on these numbers. For x86-64-v4,
+/// `build/add_kernel` replaces its machine code by a compression that prefetches by them.
+#[unsafe(no_mangle)]
+#[inline(never)]
+pub extern "C" fn proved_argon2_fill_ahead(
+    prev: &Block,
+    reference: &Block,
+    next: &mut Block,
+    size: u64,
+    columns: u64,
+    with_xor: u32,
+) -> u64
+    ensures { let g = compress_g prev.now reference.now in
+        next.new ≡ (if with_xor == 0 then g else xor g next.old) }
+{
+    fill_block(prev, reference, next, with_xor != 0);
+    // A compiler would drop numbers that nothing uses.
+    size ^ columns
 }

@@ -8,7 +8,7 @@ mod pairs;
 mod positions;
 mod snapshot;
 
-pub use expecting::{Expects, ExpectsNothing};
+pub use expecting::{Ahead, Expects, ExpectsNothing};
 pub use filling::{fill_caller_segment, fill_segment};
 pub use own_blocks::{Segment, Source};
 pub use pairs::fill_caller_pair;

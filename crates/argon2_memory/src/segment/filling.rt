@@ -1,7 +1,7 @@
 //! The fill of one segment, block after block. The segment is part of a memory, or the caller
 //! provides it.
 
-ghost use Rattle.std.specs.Prelude.{◌≡◌, ℕ, ◌+◌, ◌-◌, ◌*◌, ◌%◌, ◌^◌, ◌<◌, ◌≤◌, [], ◌∷◌, length, slice_index_or, true, false};
+ghost use Rattle.std.specs.Prelude.{◌≡◌, IfSome, ℕ, ◌+◌, ◌-◌, ◌*◌, ◌%◌, ◌^◌, ◌<◌, ◌≤◌, [], ◌∷◌, length, slice_index_or, true, false};
 ghost use Rattle.argon2_memory.specs.Theorems.Schedule.{blocks_in_slice};
 ghost use Rattle.argon2_memory.specs.Views.Filling.{FillsOn, IsFilledTo, IsSnapshot};
 ghost use Rattle.argon2_memory.specs.Views.References.{IsPicked, reference_of};
@@ -11,28 +11,33 @@ ghost use Rattle.argon2_memory.specs.Views.Segments.{IsReady, segment_at, IsBefo
 ghost use Rattle.argon2_standard.specs.Standard.Recurrence.{block_at, drawn_word};
 ghost use Rattle.argon2_standard.specs.Standard.Reference.{is_data_independent};
 
-use super::expecting::{Expects, ExpectsNothing};
+use super::expecting::{Ahead, Expects, ExpectsNothing};
 use super::other_blocks::{Beside, OtherBlocks, beside_blocks, slice_of_column, source_before};
 use super::own_blocks::{CallerSegment, OwnBlocks, Segment, Source};
-use super::positions::{pick, reference_positions};
+use super::positions::{ahead_of, pick, reference_positions};
 use super::snapshot::Snapshot;
 use crate::job::{Job, facts_of_job, stretch};
 use argon2_blocks::block::Block;
 use argon2_blocks::common::QWORDS_IN_BLOCK;
 
-/// Writes the block at an index, from the one before it and the one that it refers to.
+/// Writes the block at an index, from the one before it and the one that it refers to. Only if
+/// references depend on blocks may it find the next reference in between.
 #[inline(always)]
-fn write_block<S: OtherBlocks, O: OwnBlocks>(
+fn write_block<E: Expects, S: OtherBlocks, O: OwnBlocks>(
+    expects: &E,
     beside: &Beside<S>,
     lane: u32,
     index: u32,
     reference: (u32, u32),
+    ahead: Option<Ahead>,
     own: &mut O,
 )
     requires lane_fits { lane < beside.now.job.setting.lanes }
     requires index_fits { index < beside.now.job.setting.segment_length }
     requires later { first_index beside.now.job ≤ index }
     requires picked { IsPicked beside.now.job lane index reference }
+    requires dependent { IfSome ahead (λ _. is_data_independent beside.now.job.setting.variant
+        beside.now.job.pass beside.now.job.slice ≡ false) }
     requires long { length (O.seen own.old).blocks ≡ beside.now.job.setting.segment_length }
     ensures filled { reference ≡ reference_of beside.now.job lane index
         → FillsOn beside.now lane index (index + 1) (O.seen own.old) (O.seen own.new) }
@@ -43,7 +48,7 @@ fn write_block<S: OtherBlocks, O: OwnBlocks>(
     let with_xor = beside.job().combines();
     let prev = source_before(beside, lane, index);
     let reference = beside.source(reference.0, reference.1, index);
-    own.write(index as usize, prev, reference, with_xor);
+    own.write(expects, index as usize, prev, reference, with_xor, ahead);
 }
 
 /// The block that a source names: one of the segment's own, or another.
@@ -80,7 +85,8 @@ pub(super) fn dependent_word<S: OtherBlocks, O: OwnBlocks>(
 
 /// Fills `count` blocks from an index on, one after another, whose references depend on blocks.
 #[inline(never)]
-pub(super) fn fill_dependent<S: OtherBlocks, O: OwnBlocks>(
+pub(super) fn fill_dependent<E: Expects, S: OtherBlocks, O: OwnBlocks>(
+    expects: &E,
     beside: &Beside<S>,
     lane: u32,
     first: u32,
@@ -107,7 +113,8 @@ pub(super) fn fill_dependent<S: OtherBlocks, O: OwnBlocks>(
         let index = first + k;
         let word = dependent_word(beside, lane, index, own);
         let reference = pick(&job, lane, index, word);
-        write_block(beside, lane, index, reference, own);
+        let ahead = ahead_of(&job, index);
+        write_block(expects, beside, lane, index, reference, ahead, own);
     }
 }
 
@@ -171,7 +178,8 @@ fn write_blocks<E: Expects, S: OtherBlocks, O: OwnBlocks>(
             let next = first + (k + 1) as u32;
             expect_reference(expects, beside, lane, next, references[k + 1], own);
         }
-        write_block(beside, lane, first + k as u32, references[k], own);
+        let index = first + k as u32;
+        write_block(expects, beside, lane, index, references[k], None, own);
     }
 }
 
@@ -229,7 +237,7 @@ fn fill_blocks<E: Expects, S: OtherBlocks, O: OwnBlocks>(
     if beside.job().is_independent() {
         fill_independent(expects, beside, lane, first, count, own);
     } else {
-        fill_dependent(beside, lane, first, count, own);
+        fill_dependent(expects, beside, lane, first, count, own);
     }
 }
 

@@ -7,7 +7,8 @@ ghost use Rattle.argon2_blocks.specs.Standard.Block.{zero_block};
 ghost use Rattle.argon2_memory.specs.Views.Segments.{wiped_segment, zero_segment, with_block, IsMadeInPart, with_zeros, IsBefore, source_block};
 ghost use Rattle.argon2_standard.specs.Standard.Recurrence.{made_block};
 
-use argon2_blocks::block::{Block, fill_block, first_and_others};
+use super::expecting::{Ahead, Expects};
+use argon2_blocks::block::{Block, first_and_others};
 use std::alloc::{AllocError, Global};
 use std::marker::Model;
 
@@ -78,13 +79,15 @@ fn named_among<'a>(before: &'a [Block], source: Source<'a>) -> &'a Block
 
 /// Writes one of these blocks from two sources, in place, and counts the write. It is the one
 /// function that makes a block from others.
-fn write_among(
+fn write_among<E: Expects>(
+    expects: &E,
     blocks: &mut [Block],
     tally: &mut u64,
     index: usize,
     prev: Source<'_>,
     reference: Source<'_>,
     with_xor: bool,
+    ahead: Option<Ahead>,
 )
     requires index_fits { index < length blocks.old }
     requires prev_before { IsBefore index prev }
@@ -96,11 +99,12 @@ fn write_among(
 {
     // The sources come before the index, so they can be read while it is written, without a copy.
     let (before, others) = first_and_others(blocks, index);
-    fill_block(
+    expects.fill(
         named_among(before, prev),
         named_among(before, reference),
         &mut others[0],
         with_xor,
+        ahead,
     );
     *tally = tally.wrapping_add(1);
 }
@@ -170,7 +174,15 @@ impl Segment {
     /// Writes the compression of two sources at the index. With `with_xor`, the result is combined
     /// with the old block (RFC 9106, 3.2). It writes in place, and counts the write. A source of
     /// the same segment comes before the index.
-    pub fn write(&mut self, index: usize, prev: Source<'_>, reference: Source<'_>, with_xor: bool)
+    pub fn write<E: Expects>(
+        &mut self,
+        expects: &E,
+        index: usize,
+        prev: Source<'_>,
+        reference: Source<'_>,
+        with_xor: bool,
+        ahead: Option<Ahead>,
+    )
         requires index_fits { index < length self.old.blocks }
         requires prev_before { IsBefore index prev }
         requires reference_before { IsBefore index reference }
@@ -181,12 +193,14 @@ impl Segment {
     {
         make_up_to(&mut self.blocks, &mut self.zeros, index);
         write_among(
+            expects,
             &mut self.blocks,
             &mut self.tally,
             index,
             prev,
             reference,
             with_xor,
+            ahead,
         );
     }
 }
@@ -211,7 +225,15 @@ pub(crate) trait OwnBlocks {
         ensures { result.now ≡ slice_index_or (seen self.now).blocks index [] };
 
     /// Writes the block at the index from two sources, as `Segment::write` does.
-    fn write(&mut self, index: usize, prev: Source<'_>, reference: Source<'_>, with_xor: bool)
+    fn write<E: Expects>(
+        &mut self,
+        expects: &E,
+        index: usize,
+        prev: Source<'_>,
+        reference: Source<'_>,
+        with_xor: bool,
+        ahead: Option<Ahead>,
+    )
         requires index_fits { index < length (seen self.old).blocks }
         requires prev_before { IsBefore index prev }
         requires reference_before { IsBefore index reference }
@@ -235,8 +257,16 @@ impl OwnBlocks for Segment {
         Segment::block(self, index)
     }
 
-    fn write(&mut self, index: usize, prev: Source<'_>, reference: Source<'_>, with_xor: bool) {
-        Segment::write(self, index, prev, reference, with_xor);
+    fn write<E: Expects>(
+        &mut self,
+        expects: &E,
+        index: usize,
+        prev: Source<'_>,
+        reference: Source<'_>,
+        with_xor: bool,
+        ahead: Option<Ahead>,
+    ) {
+        Segment::write(self, expects, index, prev, reference, with_xor, ahead);
     }
 }
 
@@ -272,8 +302,19 @@ impl<'a> OwnBlocks for CallerSegment<'a> {
         &blocks[index]
     }
 
-    fn write(&mut self, index: usize, prev: Source<'_>, reference: Source<'_>, with_xor: bool) {
+    fn write<E: Expects>(
+        &mut self,
+        expects: &E,
+        index: usize,
+        prev: Source<'_>,
+        reference: Source<'_>,
+        with_xor: bool,
+        ahead: Option<Ahead>,
+    ) {
         let blocks = &mut *self.blocks;
-        write_among(blocks, &mut self.tally, index, prev, reference, with_xor);
+        let tally = &mut self.tally;
+        write_among(
+            expects, blocks, tally, index, prev, reference, with_xor, ahead,
+        );
     }
 }

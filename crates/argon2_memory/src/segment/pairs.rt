@@ -70,11 +70,11 @@ fn fill_dependent_pair<E: Expects, S: OtherBlocks, O: OwnBlocks>(
     facts_of_job(beside.job());
     for k in 0..count {
         let index = first + k;
-        fill_dependent(beside, lane, index, 1, own);
+        fill_dependent(expects, beside, lane, index, 1, own);
         if k + 1 < count {
             expect_dependent(expects, beside, lane, index + 1, own);
         }
-        fill_dependent(beside, lane + 1, index, 1, other);
+        fill_dependent(expects, beside, lane + 1, index, 1, other);
         if k + 1 < count {
             expect_dependent(expects, beside, lane + 1, index + 1, other);
         }

@@ -1,12 +1,13 @@
 //! The references of a block: the lane and column that a drawn word picks.
 
-ghost use Rattle.std.specs.Prelude.{◌≡◌, ℕ, ◌+◌, ◌-◌, ◌*◌, ◌/◌, ◌%◌, ◌^◌, ◌<◌, ◌≤◌, ◌==◌, length, take, drop, true, false};
+ghost use Rattle.std.specs.Prelude.{◌≡◌, IfSome, ℕ, ◌+◌, ◌-◌, ◌*◌, ◌/◌, ◌%◌, ◌^◌, ◌<◌, ◌≤◌, ◌==◌, length, take, drop, true, false};
 ghost use Rattle.argon2_memory.specs.Views.References.{reference_set_column, reference_set_size, left_columns, pick_of, reference_positions_of};
 ghost use Rattle.argon2_memory.specs.Views.Jobs.{position_of, first_index, IsJob};
 ghost use Rattle.argon2_standard.specs.Standard.Recurrence.{addresses};
 ghost use Rattle.argon2_standard.specs.Standard.Reference.{drawn_lane, relative_position, is_data_independent};
 ghost use Rattle.argon2_standard.specs.Standard.Setting.{lane_length};
 
+use super::expecting::Ahead;
 use crate::job::{Job, facts_of_job};
 use argon2_blocks::block::{Block, fill_block};
 use argon2_blocks::common::{ADDRESSES_IN_BLOCK, QWORDS_IN_BLOCK};
@@ -114,6 +115,28 @@ pub fn pick(job: &Job, lane: u32, index: u32, word: u64) -> (u32, u32)
     let size = reference_set_size(job, is_own, index);
     let position = relative_position(size, word);
     (chosen, reference_set_column(job, position))
+}
+
+/// What the reference of the block after an index depends on besides the block at the index, if
+/// there is one lane and if the segment has a block after it.
+pub(super) fn ahead_of(job: &Job, index: u32) -> Option<Ahead>
+    requires { index < job.now.setting.segment_length }
+    ensures size { IfSome result (λ a. a.size ≡ reference_set_size job.now true (index + 1)) }
+    ensures column { IfSome result
+        (λ a. a.column ≡ job.now.slice * job.now.setting.segment_length + index) }
+    ensures lane { IfSome result (λ a. a.lane_length ≡ lane_length job.now.setting) }
+    ensures alone { IfSome result (λ _. job.now.setting.lanes ≡ 1) }
+    ensures followed { IfSome result (λ _. index + 1 < job.now.setting.segment_length) }
+{
+    if job.lanes() > 1 || index + 1 == job.segment_length() {
+        return None;
+    }
+    let column = job.start() + index;
+    Some(Ahead {
+        size: left_columns(job) + column,
+        column,
+        lane_length: job.lane_length(),
+    })
 }
 
 /// Writes the words that the blocks at 128 indexes draw.

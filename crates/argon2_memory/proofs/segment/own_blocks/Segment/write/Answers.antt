@@ -8,7 +8,7 @@ use Rattle.argon2_memory.proofs.Filled.{made_in_front}
 use Rattle.argon2_memory.proofs.segment.own_blocks.Segment.write.Goals as goal
 
 pub returns : goal.returns
-returns c =
+returns g c =
     let with_blocks : List (List ℕ) → SegmentValue = λ blocks. record { blocks = blocks; tally = (c.self.inside.tally + 1) % 18446744073709551616 } in
     let front = c.make_up_to.new.blocks in
     let zeros = replicate c.make_up_to.new.zeros zero_block in
