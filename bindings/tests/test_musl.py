@@ -118,7 +118,7 @@ def test_crate_clears_what_it_keeps(cargo, tmp_path):
     program = (BINDINGS / 'rust/tests/programs/memory.rs').read_text(encoding='utf-8')
     folder = project(tmp_path / 'keeping', program, with_crate('password-hash'))
     with_std(cargo, folder, tmp_path,
-             ['link-arg=-Wl,--wrap=proved_argon2_memory_new,--wrap=pthread_create'], 'run', '--quiet')
+             ['link-arg=-Wl,--wrap=proved_argon2_buffers_new,--wrap=pthread_create'], 'run', '--quiet')
 
 
 @needs('cargo')

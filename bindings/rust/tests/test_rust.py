@@ -223,8 +223,7 @@ def test_tune_returns_what_the_library_finds(ask):
 TOKIO = 'tokio = { version = "1", features = ["rt-multi-thread", "macros", "time"] }'
 PROGRAMS = {
     "memory": (with_crate("password-hash"),
-               "-Clink-arg=-Wl,--wrap=proved_argon2_memory_new,"
-               "--wrap=proved_argon2_buffers_new,--wrap=pthread_create"),
+               "-Clink-arg=-Wl,--wrap=proved_argon2_buffers_new,--wrap=pthread_create"),
     "traits": (with_crate("password-hash"), ""),
     "serde": (with_crate("serde") + 'serde = "1"', ""),
     "page": (with_crate() + TOKIO, ""),

@@ -1,22 +1,17 @@
-//! The buffers that the crate for Rust keeps from call to call, what calls leave of a password, and the buffers of a
-//! `Line`. The linker gives this program the library's calls that allocate a buffer, or the handle of kept buffers
-//! (`--wrap`), and the system's call that starts a thread. It counts some of these, and can deny them. codes.rs tests
-//! when a call allocates a buffer.
+//! What calls of the crate leave of a password, and the buffers, places and forked children of a `Line`. The linker
+//! gives this program the library's call that makes a handle of kept buffers (`--wrap`), and the system's call that
+//! starts a thread. It can deny both, and counts the threads. codes.rs tests when a call allocates a buffer, and the
+//! library's own tests whether a call clears it.
 
 use argon2::password_hash::{PasswordHasher, PasswordVerifier};
-use argon2::{
-    hash_encoded, hash_encoded_in, hash_raw, hash_raw_in, verify_encoded_in, verify_encoded_within_in, verify_raw,
-    verify_raw_in, Argon2, Config, Error, Limits, Line, Memory, ThreadMode, Unverified,
-};
+use argon2::{hash_encoded, hash_raw, hash_raw_in, verify_raw, Argon2, Config, Error, Line, Memory, ThreadMode};
 use std::fs::{read_to_string, File};
 use std::io::Read;
 use std::sync::atomic::{AtomicBool, AtomicI32, AtomicUsize, Ordering::SeqCst};
 use std::thread;
 use std::time::{Duration, Instant};
 
-/// How many buffers were allocated, where the last one is, and whether the next ones are denied.
-static ALLOCATIONS: AtomicUsize = AtomicUsize::new(0);
-static PLACE: AtomicUsize = AtomicUsize::new(0);
+/// Whether the next handles are denied.
 static IS_DENIED: AtomicBool = AtomicBool::new(false);
 const OUT_OF_MEMORY: u32 = 20;
 
@@ -30,23 +25,11 @@ static ID: AtomicI32 = AtomicI32::new(1);
 
 extern "C" {
     fn __real_pthread_create(thread: usize, attributes: usize, start: usize, argument: usize) -> i32;
-    fn __real_proved_argon2_memory_new(settings: usize, memory: &mut usize, size: &mut usize) -> u32;
     fn __real_proved_argon2_buffers_new(settings: usize, most: u32, buffers: &mut usize) -> u32;
     fn fork() -> i32;
     fn _Fork() -> i32;
     fn waitpid(child: i32, status: &mut i32, options: i32) -> i32;
     fn _exit(status: i32) -> !;
-}
-
-#[no_mangle]
-unsafe extern "C" fn __wrap_proved_argon2_memory_new(settings: usize, memory: &mut usize, size: &mut usize) -> u32 {
-    ALLOCATIONS.fetch_add(1, SeqCst);
-    if IS_DENIED.load(SeqCst) {
-        return OUT_OF_MEMORY;
-    }
-    let number = __real_proved_argon2_memory_new(settings, memory, size);
-    PLACE.store(*memory, SeqCst);
-    number
 }
 
 #[no_mangle]
@@ -73,15 +56,6 @@ extern "C" fn getpid() -> i32 {
     ID.load(SeqCst)
 }
 
-/// The bytes of the buffer that was allocated last, which is this one.
-fn bytes(memory: &mut Memory) -> &mut [u8] {
-    unsafe { std::slice::from_raw_parts_mut(PLACE.load(SeqCst) as *mut u8, memory.size()) }
-}
-
-fn allocations() -> usize {
-    ALLOCATIONS.load(SeqCst)
-}
-
 const PWD: &[u8] = b"password";
 const SALT: &[u8] = b"somesalt";
 const MODES: [ThreadMode; 3] = [ThreadMode::Sequential, ThreadMode::Parallel, ThreadMode::AtMost(3)];
@@ -89,69 +63,6 @@ const MODES: [ThreadMode; 3] = [ThreadMode::Sequential, ThreadMode::Parallel, Th
 /// Argon2id with this memory in KiB, this many lanes and one pass.
 fn settings(mem_cost: u32, lanes: u32, thread_mode: ThreadMode) -> Config<'static> {
     Config { mem_cost, lanes, time_cost: 1, thread_mode, ..Config::default() }
-}
-
-/// A buffer that has grown in a call with this memory in KiB.
-fn grown(mem_cost: u32) -> Memory {
-    let mut memory = Memory::new();
-    hash_raw_in(&mut memory, PWD, SALT, &settings(mem_cost, 1, MODES[0])).unwrap();
-    memory
-}
-
-/// Each call in a buffer has to return what the call without one returns. `check` is called before and after each.
-fn all_answer(config: Config<'_>, memory: &mut Memory, mut check: impl FnMut(&mut Memory, bool)) {
-    let (tag, text) = (hash_raw(PWD, SALT, &config).unwrap(), hash_encoded(PWD, SALT, &config).unwrap());
-    let limits = Limits::default();
-    let calls: [&dyn Fn(&mut Memory) -> bool; 5] = [
-        &|memory| hash_raw_in(memory, PWD, SALT, &config) == Ok(tag.clone()),
-        &|memory| hash_encoded_in(memory, PWD, SALT, &config) == Ok(text.clone()),
-        &|memory| verify_raw_in(memory, PWD, SALT, &tag, &config) == Ok(true),
-        &|memory| verify_encoded_in(memory, &text, b"Password", &[], &[]) == Ok(false),
-        &|memory| verify_encoded_within_in(memory, &text, PWD, &[], &[], &limits) == Ok(true),
-    ];
-    for call in calls {
-        check(memory, false);
-        assert!(call(memory), "{config:?}");
-        check(memory, true);
-    }
-}
-
-/// A call clears what it used of a buffer, whatever was there, and leaves the rest unchanged. A buffer that is large
-/// enough serves any thread, and no other one is allocated.
-fn calls_clear_what_they_used() {
-    let mut memory = grown(5000);
-    for (mem_cost, lanes, mode) in [(256, 1, MODES[0]), (4096, 4, MODES[1]), (1003, 4, MODES[2]), (5000, 1, MODES[0])] {
-        let (used, config) = ((mem_cost / (4 * lanes) * 4 * lanes) as usize * 1024, settings(mem_cost, lanes, mode));
-        let before = allocations();
-        let in_a_thread = std::thread::spawn(move || {
-            all_answer(config, &mut memory, |memory, is_done| {
-                let (blocks, rest) = bytes(memory).split_at_mut(used);
-                assert!(!is_done || blocks.iter().all(|byte| *byte == 0) && rest.iter().all(|byte| *byte == 0xa5));
-                blocks.fill(0xa5);
-                rest.fill(0xa5);
-            });
-            memory
-        });
-        memory = in_a_thread.join().unwrap();
-        assert_eq!((allocations(), memory.size()), (before, 5000 << 10));
-    }
-}
-
-/// A call that rejects its settings allocates nothing and leaves the buffer unchanged.
-fn errors_leave_the_buffer_unchanged() {
-    let (mut memory, large) = (grown(100), settings(1 << 20, 1, ThreadMode::Parallel));
-    bytes(&mut memory).fill(0xa5);
-    let before = allocations();
-    let rejected = Config { time_cost: 0, ..large };
-    assert_eq!(hash_raw_in(&mut memory, PWD, SALT, &rejected), Err(Error::TimeTooSmall));
-    assert_eq!(verify_raw_in(&mut memory, PWD, SALT, &[0; 16], &rejected), Err(Error::TimeTooSmall));
-    let (text, limits) =
-        ("$argon2id$v=19$m=1048576,t=1,p=1$c29tZXNhbHQ$AAAA", Limits { mem_cost: 1, ..Limits::default() });
-    assert_eq!(verify_encoded_in(&mut memory, text, PWD, &[], &[]), Err(Error::OutputTooShort));
-    let costly = verify_encoded_within_in(&mut memory, text, PWD, &[], &[], &limits);
-    assert_eq!(costly, Err(Unverified::TooCostly));
-    assert_eq!((allocations(), memory.size()), (before, 100 << 10));
-    assert!(bytes(&mut memory).iter().all(|byte| *byte == 0xa5));
 }
 
 /// How often the memory that this process may write to contains these bytes. We count in a forked child,
@@ -302,8 +213,6 @@ fn a_forked_child_has_all_places(fork: unsafe extern "C" fn() -> i32, id: i32) {
 }
 
 fn main() {
-    calls_clear_what_they_used();
-    errors_leave_the_buffer_unchanged();
     no_copy_of_a_password_is_left();
     no_copy_of_a_tag_is_left();
     a_hasher_of_the_traits_verifies_with_at_most_16_threads();
