@@ -2,32 +2,20 @@
 import asyncio
 import copy
 import pickle
-import threading
 import time
-from concurrent.futures import ThreadPoolExecutor
 from unittest import mock
 
 import pytest
-from processes import PATIENCE, resident, status_of_child
-from proved_argon2 import (
-    AsyncPasswordHasher,
-    AsyncPepperedHasher,
-    Limits,
-    PasswordHasher,
-    PepperedHasher,
-    Type,
-    _memory,
-    _pool,
-)
-from proved_argon2.exceptions import HashingError, VerificationError, VerifyMismatchError
-from proved_argon2.low_level import Memory, hash_secret, hash_secret_raw, verify_secret
+from processes import PATIENCE, resident
+from proved_argon2 import AsyncPasswordHasher, AsyncPepperedHasher, PasswordHasher, PepperedHasher, _memory, _pool
+from proved_argon2.exceptions import HashingError, VerifyMismatchError
+from proved_argon2.low_level import Memory
 
 MIB = 1 << 20
 # Memory that a process has beside the blocks of its hashes: other threads' stacks, and what Python needs.
 SLACK = 8 * MIB
 # A kept buffer of this many KiB, of which a call has touched all, is seen in the process's memory.
 LARGE = 32 << 10
-LARGER = "$argon2id$v=19$m=1048576,t=1,p=1$c29tZXNhbHQ$AAAAAAAAAAAAAAAAAAAAAA"
 
 
 def settings_of(memory_cost, **named):
@@ -38,48 +26,6 @@ def keeps(hasher, before):
     """Return whether this process has the memory of a large hash, beside what it had before."""
     del hasher
     return resident() > before + (LARGE << 10) - SLACK
-
-
-def outcome(call, memory):
-    """Return the result of a call, or the error that it raises."""
-    try:
-        return call(memory)
-    except (HashingError, VerificationError) as error:
-        return type(error), str(error)
-
-
-def calls(memory_cost, lanes=1, time_cost=1, variant=Type.ID):
-    """Yield each call that takes a memory, as a function of the memory, with its expected outcome."""
-    arguments = (b"password", b"somesalt", time_cost, memory_cost, lanes, 24, variant)
-    text, limits = hash_secret(*arguments), Limits(memory_cost=1 << 19, parallelism=100)
-    for call in (
-        lambda memory: hash_secret(*arguments, memory=memory),
-        lambda memory: hash_secret_raw(*arguments, memory=memory),
-        lambda memory: verify_secret(text, b"password", variant, memory=memory),
-        lambda memory: verify_secret(text, b"password", variant, limits=limits, memory=memory),
-        lambda memory: verify_secret(text, b"Password", variant, memory=memory),
-        lambda memory: verify_secret(LARGER.encode(), b"password", Type.ID, limits=limits, memory=memory),
-    ):
-        yield call, outcome(call, None)
-
-
-def test_a_memory_changes_no_result():
-    """Some calls need more than the buffers have, and some settings are rejected."""
-    memory = Memory(4096, most=2)
-    for place, (memory_cost, lanes) in enumerate(((64, 1), (4096, 4), (8192, 3), (8, 1), (1000, 5), (320, 40))):
-        for call, expected in calls(memory_cost, lanes, 2, list(Type)[place % 3]):
-            assert outcome(call, memory) == expected, (memory_cost, lanes)
-    rejected = outcome(lambda memory: hash_secret(b"x", b"somesalt", 1, 7, 1, 16, Type.ID, memory=memory), memory)
-    assert rejected == (HashingError, "Memory cost is too small")
-
-
-def test_calls_at_the_same_time_have_the_same_results():
-    memory = Memory(1024, most=4)
-    inputs = [(str(number).encode(), b"somesalt", 1, 512 + number, 2, 16, Type.ID) for number in range(64)]
-    expected = [hash_secret_raw(*arguments) for arguments in inputs]
-    with ThreadPoolExecutor(8) as pool:
-        for _ in range(5):
-            assert list(pool.map(lambda arguments: hash_secret_raw(*arguments, memory=memory), inputs)) == expected
 
 
 @pytest.mark.parametrize("memory_cost, most, error, words", [
@@ -167,23 +113,3 @@ def test_a_call_of_an_async_hasher_that_progress_makes_has_the_same_result():
     hasher = AsyncPasswordHasher(settings_of(1024), concurrency=1)
     call = hasher.run(lambda progress: settings_of(1024).hash("password", salt=salt, progress=nested))
     assert asyncio.run(call) == expected and inner == [expected] * 4
-
-
-@pytest.mark.filterwarnings("ignore:.*multi-threaded.*fork:DeprecationWarning")
-def test_a_forked_child_can_use_the_memory_of_its_parent():
-    kept, used = settings_of(1024, keep_memory=True), AsyncPasswordHasher(settings_of(1024), concurrency=2)
-    text = kept.hash("password")
-    hash_in(used)
-
-    def run_in_child():
-        assert kept.verify(text, "password") is True
-        hash_in(used)
-        threads = [threading.Thread(target=kept.hash, args=("password",)) for _ in range(4)]
-        for thread in threads:
-            thread.start()
-        for thread in threads:
-            thread.join()
-
-    assert status_of_child(run_in_child) == 0
-    assert kept.verify(text, "password") is True
-    hash_in(used)
