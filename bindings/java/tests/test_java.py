@@ -124,7 +124,7 @@ USUAL = "--exclude-tag", "codes", "--exclude-tag", "denied"
 
 
 def test_its_own_tests_pass_in_java_17(jar, classes, drawn):
-    passes(70, "java", *words_of(jar, classes, drawn, *USUAL))
+    passes(64, "java", *words_of(jar, classes, drawn, *USUAL))
 
 
 @pytest.fixture(scope="module")
@@ -143,7 +143,7 @@ def system(tmp_path_factory):
 def test_its_own_tests_pass_in_newer_java(jar, classes, drawn, system, version):
     folders = TOP, jar.parent, drawn["RANDOM_HASHES"].parent, "/usr/share/java", "/usr/share/maven-repo"
     java = f"/usr/lib/jvm/java-{version}-openjdk-amd64/bin/java"
-    passes(70, "unshare", "--mount", "--propagation", "private", "bash", "-euc", ELSEWHERE, "bash", system, *folders,
+    passes(64, "unshare", "--mount", "--propagation", "private", "bash", "-euc", ELSEWHERE, "bash", system, *folders,
            "--", java, *words_of(jar, classes, drawn, *USUAL))
 
 
@@ -158,7 +158,7 @@ def test_its_own_tests_pass_on_arm64(classes, drawn, tmp_path):
     run(JAVA / "pack", jar, built("aarch64") / "aarch64", env=DATED)
     java = root / "usr/lib/jvm/java-17-openjdk-arm64/bin/java"
     words = words_of(jar, classes, drawn, *USUAL, "--exclude-tag", "terabytes")
-    passes(69, "qemu-aarch64-static", "-L", root, java, *words)
+    passes(63, "qemu-aarch64-static", "-L", root, java, *words)
 
 
 def test_each_public_member_is_documented(tmp_path):

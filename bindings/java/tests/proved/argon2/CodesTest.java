@@ -93,6 +93,8 @@ class CodesTest {
         assertTrue(seen().endsWith("|" + System.getProperty("passed.hash_raw")), seen());
         hasher.verify(STORED, PASSWORD);
         assertTrue(seen().endsWith("|" + System.getProperty("passed.verify_encoded_within")), seen());
+        hasher.verifyUnknown(PASSWORD);
+        assertTrue(seen().endsWith("|unknown word key 2 19 64 3 4 5"), seen());
     }
 
     /** (it saw the number of threads, the length of the buffers or -1, and what a callback said or -1) */

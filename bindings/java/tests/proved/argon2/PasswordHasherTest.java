@@ -6,6 +6,7 @@ import static proved.argon2.HashesTest.bytes;
 
 import java.lang.reflect.Proxy;
 import java.util.*;
+import java.util.stream.Stream;
 import org.junit.jupiter.api.*;
 import org.junit.jupiter.api.function.Executable;
 import org.junit.jupiter.params.ParameterizedTest;
@@ -38,6 +39,17 @@ class PasswordHasherTest {
         assertTrue(hasher.verify(stored, text.toCharArray()) && hasher.verify(stored, bytes(text)));
         assertFalse(hasher.verify(stored, (text + "\0").toCharArray()) || hasher.verify(stored, bytes(text + "\0")));
         assertFalse(hasher.verifyUnknown(text.toCharArray()));
+    }
+
+    /** (all eight salts have the same byte somewhere only once in 2^52 times) */
+    @Test
+    void eachByteOfASaltIsRandom() {
+        List<byte[]> salts = Stream.generate(() -> hasher.hash(password)).limit(8)
+            .map(stored -> Base64.getDecoder().decode(stored.split("\\$")[4])).toList();
+        for (int at = 0; at < SMALL.saltLength(); at++) {
+            int index = at;
+            assertTrue(salts.stream().map(salt -> salt[index]).distinct().count() > 1, "byte " + at);
+        }
     }
 
     @ParameterizedTest
@@ -82,7 +94,7 @@ class PasswordHasherTest {
     }
 
     @ParameterizedTest
-    @ValueSource(strings = {"", "x", "\0" + STORED, STORED + "\0", "argon2id$", STORED + "=", STORED + "ä"})
+    @ValueSource(strings = {"", "\0" + STORED, STORED + "\0", STORED + "ä"})
     void wrongEncodedHashesAreErrors(String wrong) {
         assertFails(DECODING_FAIL, () -> hasher.verify(wrong, password));
         assertFails(DECODING_FAIL, () -> hasher.verifyAndUpdate(wrong, password));
@@ -92,8 +104,7 @@ class PasswordHasherTest {
 
     @Test
     void limitsAreKept() {
-        for (Limits low : List.of(new Limits(255, 9, 9, 9999), new Limits(256, 1, 9, 9999),
-                new Limits(256, 2, 0, 9999), new Limits(256, 2, 1, 511), new Limits(-1, -1, -1, -1))) {
+        for (Limits low : List.of(new Limits(256, 2, 1, 511), new Limits(-1, -1, -1, -1))) {
             assertFails(TOO_COSTLY, () -> hasher.withLimits(low).verify(STORED, password));
         }
         assertTrue(hasher.withLimits(new Limits(256, 2, 1, 512)).verify(STORED, password));
@@ -169,28 +180,5 @@ class PasswordHasherTest {
         assertTrue(encoder.matches("password", other.encode("password")));
         assertFalse(encoder.needsRehash(other.encode("password")));
         assertFails(TOO_COSTLY, () -> encoder.matches("password", STORED));
-    }
-
-    /**
-     * Hashes with the same settings and number of slices take equally long. With 64 bytes, the encoded hash is longer
-     * than PROVED_ARGON2_TEXT_SIZE.
-     */
-    @ParameterizedTest
-    @ValueSource(ints = {4, 32, 64, 1000})
-    void anUnknownUserCostsAsMuchAsAKnownOne(int hashLength) {
-        Settings settings = settings(7168, 5, 1, hashLength, 16);
-        byte[] stored = bytes(new PasswordHasher(settings).hash(password));
-        assertEquals(21, slices(Native.Call.VERIFY, settings, stored));
-        assertEquals(21, slices(Native.Call.VERIFY_UNKNOWN, settings, new byte[0]));
-    }
-
-    /** Counts how often a call asks whether to stop: before it begins, and after each slice. */
-    private static int slices(Native.Call call, Settings settings, byte[] text) {
-        int[] asked = new int[1];
-        byte[] none = {};
-        int number = Native.make(call.ordinal(), settings.numbers(), Limits.DEFAULT.numbers(), Native.NONE,
-            () -> asked[0]++ < 0, none, none, none, none, text);
-        assertEquals(Native.MISMATCH, number);
-        return asked[0];
     }
 }
