@@ -105,10 +105,27 @@ func TestEncodedHashesAreVerified(t *testing.T) {
 	}
 }
 
+// saltOf returns the salt of an encoded hash.
+func saltOf(encoded string) []byte {
+	return must(base64.RawStdEncoding.DecodeString(strings.Split(encoded, "$")[4]))
+}
+
 func TestHashMakesNewSalts(t *testing.T) {
 	one, other := must(Hash(password, OWASP2())), must(Hash(password, OWASP2()))
 	if one == other || !strings.HasPrefix(one, "$argon2id$v=19$m=19456,t=2,p=1$") || len(one) != 97 {
 		t.Error(one, other)
+	}
+	var differs [16]bool // all eight salts have the same byte somewhere only once in 2^52 times
+	first := saltOf(must(Hash(password, small())))
+	for i := 0; i < 7; i++ {
+		for at, b := range saltOf(must(Hash(password, small()))) {
+			differs[at] = differs[at] || b != first[at]
+		}
+	}
+	for at, isRandom := range differs {
+		if !isRandom {
+			t.Error("byte", at, "of the salt is no random one")
+		}
 	}
 	for _, pwd := range [][]byte{nil, []byte("pass\x00word"), make([]byte, 1<<16)} {
 		encoded := must(Hash(pwd, small()))
