@@ -113,7 +113,7 @@ def finished(copy, tmp_path, monkeypatch):
 
 
 def commit(copy):
-    copy.run('git', 'commit', '-qam', 'release: change what the tag depends on')
+    copy.run('git', 'commit', '-qam', 'release: change what the tag depends on', '-m', 'It is a test.')
 
 
 def sign(copy):
@@ -143,6 +143,17 @@ def test_the_tag_is_signed_only_if_nothing_prevents_it(finished):
     note_that_ci_passed(finished)
     assert not sign(finished).returncode
     finished.run('git', 'tag', '--verify', finished.run('git', 'tag').strip())
+
+
+def test_the_commands_of_the_page_make_a_release(finished):
+    """Once CI has passed. Whoever checks it runs the commands of another page."""
+    commit(finished)
+    note_that_ci_passed(finished)
+    commands, = re.findall(r'^    (\.ci/release/tag)\n    (\./package .*)$', read('docs/PUBLISHING.md'), re.M)
+    for command in commands:
+        finished.run(*command.split())
+    checks, = re.findall(r'^    (gpg --verify .*)$', read('docs/INSTALL.md'), re.M)
+    assert run('sh', '-ec', checks, cwd=finished.top / 'out/release').stdout.count(': OK\n') > 20
 
 
 def test_the_command_of_the_page_installs_the_packages_that_the_list_names(tmp_path):

@@ -178,6 +178,14 @@ def test_the_comparison_takes_no_option_of_apt_get_for_a_package(compared, copy)
     assert ran.returncode == 1 and f'{LIST} names other packages than build/current.sh' in ran.stdout
 
 
+def test_an_archive_of_the_sources_is_compared_without_what_it_lacks(compared, copy):
+    programs = [*copy.glob('release/x86-64-v*/argon2_*')]
+    for program in programs:
+        program.unlink()
+    ran = compare(copy)
+    assert len(programs) == 4 and ran.returncode == 0, ran.stdout
+
+
 # Stand-ins pretend that other versions than the listed are installed here, and that a chroot with those listed links
 # the files of release/.
 STAND_INS = {

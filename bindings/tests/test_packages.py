@@ -234,7 +234,7 @@ def test_the_archive_of_the_sources_makes_all_other_packages(tagged, packages, t
     assert listed.keys() | {'SHA256SUMS'} == {file.name for file in made.iterdir()} and len(listed) == 13
     tarball, = (own for name, own in listed.items() if name.endswith(f'-{MACHINE}.tar.gz'))
     assert tarball in read(packages / 'SHA256SUMS')
-    assert not (tree / 'bindings/out').exists()
+    assert not [*tree.glob('bindings/out/**/*.[ao]')]  # (nothing was proved, compiled or linked)
 
 
 # Links to all programs of the system, except the compilers for other machines.
