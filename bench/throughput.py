@@ -46,7 +46,7 @@ def call_together(runs, seconds):
 
 
 def measure(loaded, cost, callers, seconds):
-    """All milliseconds of each implementation, a list for each caller of each round."""
+    """Returns all milliseconds of each implementation, a list for each caller of each round."""
     spent = {peer: [] for peer in loaded}
     for _ in range(ROUNDS):
         for peer in random.sample([*loaded], len(loaded)):

@@ -54,7 +54,7 @@ def ours(library, cost, memory=0, length=0):
 
 
 def reusing(library, cost):
-    """Over a buffer of whole huge pages."""
+    """Returns a call that hashes over a buffer of whole huge pages."""
     length = cost[0] * 1024
     pages = mmap.mmap(-1, length + HUGE_PAGE, mmap.MAP_PRIVATE | mmap.MAP_ANONYMOUS)
     pages.madvise(mmap.MADV_HUGEPAGE)
@@ -82,7 +82,7 @@ def java(way, jar, cost):
 
 
 def in_process(*words):
-    """A program that hashes for each line, and prints the tag and the milliseconds."""
+    """Returns a program that hashes for each line, and prints the tag and the milliseconds."""
     kept.append(process := subprocess.Popen(words, stdin=subprocess.PIPE, stdout=subprocess.PIPE, text=True))
 
     def run():
@@ -151,8 +151,8 @@ PEERS = (
 
 
 def load(folder, name):
-    """A library, a module for Node, a program of Go, or a jar; None if it is not there. Our library chooses its build
-    at its first call, here the one in its file's name."""
+    """Returns a library, a module for Node, a program of Go, or a jar; None if it is not there. Our library chooses its
+    build at its first call, here the one in its file's name."""
     path = Path(folder, name).absolute()
     if path.suffix in ('.js', '.jar', ''):
         return path if path.exists() else None
@@ -168,7 +168,7 @@ def load(folder, name):
 
 
 def prepare(loaded, cost):
-    """The calls to time in a case, by implementation; all return the same tag."""
+    """Returns the calls to time in a case, by implementation; all return the same tag."""
     hashes, tags = {}, {}
     kept.clear()
     for peer, library in loaded.items():
@@ -185,7 +185,7 @@ def measure(loaded, cost, seconds):
     counts: the first one depends on what ran before, since some implementations give memory back to the system."""
     hashes = prepare(loaded, cost)
     spent, end = {name: [] for name in hashes}, time.perf_counter() + seconds * cost[3]
-    # (the first round is a cold one)
+    # The first round is a cold one.
     while min(map(len, spent.values())) < 2 or time.perf_counter() < end:
         for name, times in random.sample([*spent.items()], len(spent)):
             hashes[name]()
@@ -194,12 +194,12 @@ def measure(loaded, cost, seconds):
 
 
 def column(kind, cost):
-    """The name of a case on a kind of kernel."""
+    """Returns the name of a case on a kind of kernel."""
     return '{} ({}, {}, {}) x {}'.format(kind, *cost)
 
 
 def load_all(folder):
-    """The libraries that are there, by their implementations."""
+    """Returns the libraries that are there, by their implementations."""
     return {peer: library for peer in PEERS if (library := load(folder, peer.library))}
 
 

@@ -1,4 +1,4 @@
-"""What the tests of these folders share: where the modules are that they import, what is built, where it is installed,
+"""The tests of these folders share this: the folders of modules that they import, what is built, where it is installed,
 and what cargo and Node need."""
 import random
 import shutil
@@ -15,13 +15,13 @@ import running  # noqa: E402
 
 @pytest.fixture(scope="session")
 def built():
-    """The folder with everything for this machine, linked."""
+    """Returns the folder with everything for this machine, linked."""
     return running.built()
 
 
 @pytest.fixture(scope="session")
 def installed(tmp_path_factory):
-    """The prefix of an installation, with a blank in its name."""
+    """Returns the prefix of an installation, with a blank in its name."""
     prefix = tmp_path_factory.mktemp("installed") / "a prefix"
     running.run("./install", prefix)
     return prefix
@@ -29,7 +29,7 @@ def installed(tmp_path_factory):
 
 @pytest.fixture(scope="session")
 def archive(tmp_path_factory):
-    """An archive of the sources, unpacked: what git packs of the files here."""
+    """Returns an archive of the sources, unpacked: what git packs of the files here."""
     folder = tmp_path_factory.mktemp("archive")
     script = 'cp "$(git rev-parse --git-path index)" "$1" && export GIT_INDEX_FILE=$1 && git add --all' \
              ' && git archive "$(git write-tree)" | tar -xC "$0"'
@@ -39,7 +39,7 @@ def archive(tmp_path_factory):
 
 @pytest.fixture(scope="session")
 def cargo(tmp_path_factory):
-    """The variables by which cargo takes Debian's crates, and compiles into one folder."""
+    """Returns the variables by which cargo takes Debian's crates, and compiles into one folder."""
     home = tmp_path_factory.mktemp("cargo")
     (home / "config.toml").write_text(running.CRATES_OF_DEBIAN)
     cheap = {"CARGO_INCREMENTAL": 0, "CARGO_PROFILE_DEV_DEBUG": 0}
@@ -48,7 +48,7 @@ def cargo(tmp_path_factory):
 
 @pytest.fixture(scope="session")
 def drawn(tmp_path_factory):
-    """The variable that names a file of 800 hashes of libargon2, drawn anew each time."""
+    """Returns the variable that names a file of 800 hashes of libargon2, drawn anew each time."""
     file = tmp_path_factory.mktemp("drawn") / "random.txt"
     file.write_text(running.run("python3", "bindings/vectors/drawn.py", random.SystemRandom().getrandbits(32), 800))
     return {"RANDOM_HASHES": file}
@@ -56,7 +56,8 @@ def drawn(tmp_path_factory):
 
 @pytest.fixture(scope="session")
 def site(tmp_path_factory):
-    """The package for npm, installed beside its tests by npm without a network, or put where npm would put it."""
+    """Returns the package for npm, installed beside its tests by npm without a network, or put where npm would put
+    it."""
     folder = tmp_path_factory.mktemp("site")
     packed, modules = folder / "package.tgz", folder / "node_modules"
     running.run("bindings/javascript/pack", packed, running.built("wasm32") / "wasm32",

@@ -62,7 +62,7 @@ list_packages() {
 
 # ---- what is built here
 
-# Whether git tracks no file in a folder `out`. Such a file would pass for one that was built here.
+# Fails if git tracks a file in a folder `out`. Such a file would pass for one that was built here.
 tracks_nothing_built() {
     why='git does not say what it tracks'
     tracked=$(git -c safe.directory='*' -C "$root" ls-files -- ':(glob)**/out' ':(glob)**/out/**' 2>/dev/null) \
@@ -71,7 +71,7 @@ tracks_nothing_built() {
     [ -z "$tracked" ]
 }
 
-# What a build of crates is made from: `line_of NAME..` leaves in `line` the hash of their sources and, if there is a
+# `line_of NAME..` leaves in `line` what a build of crates is made from: the hash of their sources and, if there is a
 # kit, the output of `rt version`.
 line_of() {
     # shellcheck disable=SC2086 # they are words
@@ -81,8 +81,8 @@ line_of() {
     [ ! -e "${rt%/*}/../KIT-ID" ] || line="$sum $(paste -s -d ' ' -- "${rt%/*}/../KIT-ID")"
 }
 
-# Where a build is noted, and what is noted of its content: `find_note FILE` leaves these in `note` and `of`. A folder's
-# note is inside it, and disappears with the old folder.
+# `find_note FILE` leaves in `note` the file in which a build is noted, and in `of` what is noted of its content. A
+# folder's note is inside it, and disappears with the old folder.
 find_note() {
     note=$1/sources of=folder
     [ -d "$1" ] || { note=$1.sources && of=$(sha256sum <"$1"); }
@@ -97,8 +97,8 @@ note_built() {
     [ "$line" = "$2" ] && printf '%s\n' "$line" "$of" >"$note.$$" && mv -f -- "$note.$$" "$note"
 }
 
-# Whether a file, or a folder's content, is as noted beside it, and was built of these sources of a crate and, if there
-# is one, by this kit: `is_built CRATE FILE`.
+# `is_built CRATE FILE` fails unless a file, or a folder's content, is as noted beside it, and was built of these
+# sources of a crate and, if there is one, by this kit.
 is_built() {
     why="$2 is not built"
     [ -e "$2" ] && tracks_nothing_built && line_of "$1" && find_note "$2" || return
@@ -109,8 +109,8 @@ is_built() {
 
 # ---- release/
 
-# What a folder of release/ is built from beside proved crates, by the toolchain alone or by a C compiler too:
-# `others_of FOLDER` leaves the files in `others`.
+# `others_of FOLDER` leaves in `others` the files from which a folder of release/ is built beside proved crates, by the
+# toolchain alone or by a C compiler too.
 others_of() {
     others='build/add_kernel build/link_wasm build/machines.txt bindings/kernels/*.c bindings/wasm/instance.s'
     find_machines
@@ -133,7 +133,7 @@ sum_part() {
     sum_files $sources $others
 }
 
-# Whether release/ is of these sources, and of no others, as its manifest says: `is_of_sources FOLDER`.
+# `is_of_sources FOLDER` fails unless the manifest of release/ says that this folder is of these sources.
 is_of_sources() {
     sum_part "$1" || return
     why="release/MANIFEST is of other sources of $1"
@@ -144,7 +144,7 @@ is_of_sources() {
 # out of an archive of the sources, and .gitignore out of a repository that begins with such an archive.
 unlicensed='x86-64-v[0-9]+/argon2_(program|tool)'
 
-# Whether this tree is without these programs: not one is here, and git tracks none.
+# Fails unless this tree is without these programs: not one is here, and git tracks none.
 lacks_unlicensed() {
     programs=$(sed -nE "s#^[0-9a-f]+  ($unlicensed)\$#release/\1#p" "$root/release/MANIFEST" 2>/dev/null)
     [ "$programs" ] || return
@@ -156,8 +156,8 @@ lacks_unlicensed() {
     [ -z "$tracked" ]
 }
 
-# Whether a file of release/, or a folder's content, is as the manifest names it, with nothing else in it: `is_listed
-# PART`.
+# `is_listed PART` fails unless a file of release/, or a folder's content, is as the manifest names it. The folder may
+# have no other file.
 is_listed() {
     why="release/MANIFEST names no file of $1"
     listed=$(grep -E "^[^#].*  $1(/|\$)" "$root/release/MANIFEST") || return

@@ -17,7 +17,7 @@ class Machine(NamedTuple):
 
 
 def lines(begin):
-    """The table's lines that begin with one of these characters."""
+    """Returns the table's lines that begin with one of these characters."""
     with open(f"{HERE}/machines.txt", encoding="utf-8") as table:
         return [line for line in table if re.match(begin, line)]
 
@@ -33,7 +33,7 @@ def machines():
 
 
 def flags_of_builds():
-    """What each of several builds needs of a processor, beside the needs of the previous one."""
+    """Returns what each of several builds needs of a processor, beside the needs of the previous one."""
     found = {build: flags for _, build, *flags in map(str.split, lines("[+]"))}
     several = [build for machine in machines().values() if machine.builds[1:] for build in machine.builds]
     assert [*found] == several, f"machines.txt says what these ask for: {[*found]}, and has {several}"

@@ -13,7 +13,7 @@ HERE = os.path.dirname(os.path.realpath(__file__))
 
 @functools.cache
 def load_rt():
-    """The command `rt` as a module; its library is `load_rt().rtlib`."""
+    """Returns the command `rt` as a module; its library is `load_rt().rtlib`."""
     os.environ["PATH"] = os.environ.get("PATH", "") + ":/opt/rattle/bin"
     found = shutil.which("rt")
     assert found, "there is no rt, which proves and builds"
@@ -45,7 +45,7 @@ def shell(script, *words, check=False, **how):
 
 
 def stamp(crate):
-    """A line that identifies the sources of a crate and of those below it (`line_of`)."""
+    """Returns a line that identifies the sources of a crate and of those below it (`line_of`)."""
     return shell('line_of "$1" && echo "$line" || ! echo "$why" >&2', crate, check=True).stdout.strip()
 
 
@@ -55,7 +55,7 @@ def mark(crate, line, file):
 
 
 def is_current(crate, *files, says_why=False):
-    """Whether files of a crate's build are what they were when they were marked, and the crate's sources as well."""
+    """Returns whether files of a crate's build, and its sources, are what they were when the files were marked."""
     script = 'crate=$1 && shift && for file; do is_built "$crate" "$file" || { echo "$why" >&2; exit 1; }; done'
     return shell(script, crate, *files, stderr=None if says_why else subprocess.DEVNULL).returncode == 0
 

@@ -36,7 +36,7 @@ static unsigned long number_in(const char *name, unsigned long other)
     return number ? strtoul(number, NULL, 10) : other;
 }
 
-/* Whether to refuse this event: the N-th, or one of the tries that follow it. */
+/* Returns whether to refuse this event: the N-th, or one of the tries that follow it. */
 static int is_refused(const char *name, unsigned long *count)
 {
     const unsigned long first = number_in(name, 0), number = __atomic_add_fetch(count, 1, __ATOMIC_SEQ_CST);

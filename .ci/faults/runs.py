@@ -36,7 +36,7 @@ FAULTS = str(build_preloaded(TOP / '.ci/faults/faults.c', FOLDER.name))
 
 @functools.cache
 def copy_of(name, suffix=''):
-    """A copy of a crate's binary that the proofs left. It has to be built from these sources."""
+    """Returns a copy of a crate's binary that the proofs left. It has to be built from these sources."""
     crate = name.removesuffix('_tests')
     binary = TOP / f'crates/{crate}/out/{name}{suffix}'
     assert is_current(crate, binary, says_why=True), f'{binary.name} was built from other sources'

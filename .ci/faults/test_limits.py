@@ -74,6 +74,5 @@ def test_a_hash_without_workers_is_refused_with_few_pages_touched(how, denied, m
 
 @pytest.mark.parametrize('lanes', (1, 64, 1000))
 def test_an_encoded_hash_of_4_tib_is_refused_before_memory_is_touched(lanes):
-    """It is refused before its matrix is touched."""
     found = met(['verify', f'$argon2id$v=19$m=4294967295,t=1,p={lanes}$c29tZXNhbHQ$c29tZWhhc2g'], '')
     assert found[NO_MEMORY] == 1 and 0 < found['peak'] <= MOST_RESIDENT

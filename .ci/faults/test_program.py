@@ -51,8 +51,8 @@ COSTLY = [['check', '$argon2id$v=19$m=8,t=1000,p=1$$c29tZWhhc2g'], ['new', *'arg
 
 
 def ends():
-    """Each result, the arguments of the runs that come to it, and how they are run. Statuses 0 and 1: only the answer
-    is written. Status 2: only the refusal. Status 5: above the tool's limits, whatever else is wrong. Status 3:
+    """Yields each result, the arguments of the runs that come to it, and how they are run. Statuses 0 and 1: only the
+    answer is written. Status 2: only the refusal. Status 5: above the tool's limits, whatever else is wrong. Status 3:
     arguments that are no command, up to 20,000."""
     yield (0, TWO.output(), ''), [HASH, NEW]
     yield (0, NO_WORD.output(), ''), [['new', *NO_WORD.settings(), NO_WORD.salt.hex()]]
@@ -81,14 +81,14 @@ def ends():
 
 
 def rows():
-    """Each row's binary, its words, how it is run, and what it comes to."""
+    """Yields each row's binary, its words, how it is run, and what it comes to."""
     for expected, every, *how in ends():
         yield from ((name, words, dict(*how), expected) for words in every for name in BINARIES
                     if name == 'argon2_tool' or words[:1] not in (['new'], ['check'], [b'check']))
 
 
 def come_to(name, words, by=None, **how):
-    """The result of a run, without what the tool adds to a line."""
+    """Returns the result of a run, without what the tool adds to a line."""
     came = run([*(['bash', '-c', by] if by else []), OTHER or copy_of(name), *words], False, **how)
     return came.status, came.output, ADDED.sub('', came.errors) if name == 'argon2_tool' else came.errors
 
@@ -113,7 +113,7 @@ def test_words_of_each_length_are_used_completely(name, size):
 
 
 def answers_differ(rows):
-    """The rows that argon2_vectors answers differently, each with its answer."""
+    """Returns the rows that argon2_vectors answers differently, each with its answer."""
     answered = run([copy_of('argon2_vectors')], False, input_bytes=''.join(f'{row[0]}\n' for row in rows).encode())
     answers = answered.output.splitlines()
     assert len(answers) == len(rows), answered.errors

@@ -19,7 +19,7 @@ RUNS, MOST_LATE, MOST_MOMENT = 75, 1000, 0.003  # of each kind; microseconds, an
 
 
 def drawn(draw, kind):
-    """A hash for a kind: one that is stopped takes long."""
+    """Returns a hash for a kind: one that is stopped takes long."""
     lanes, passes = draw.randint(2, draw.choice([8, 8, 8, 100])), draw.randint(1, 3)
     memory = draw.randint(*(16384, 32768) if kind == 'stopped' else (8 * lanes, 1024))
     length, most = draw.choice([4, 32, 64, 100, draw.randint(101, 2000)]), draw.choice([None, draw.randint(2, 6)])

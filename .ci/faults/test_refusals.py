@@ -41,7 +41,7 @@ RUNS = (
 
 
 def labels_of(patterns):
-    """The labels that patterns mean: `a_{b,c}` is `a_b` and `a_c`."""
+    """Yields the labels that patterns mean: `a_{b,c}` is `a_b` and `a_c`."""
     for pattern in patterns.split(' '):
         parts = re.split(r'\{(.*?)\}', pattern)
         yield from map(''.join, product(*(part.split(',') if at % 2 else [part] for at, part in enumerate(parts))))
@@ -104,14 +104,14 @@ LABELS = {label: holds for patterns, *holds in (
     ('tool_new', 0, lambda of: of.own == of.program_hash_in_one_thread + 1),
     ('{program_verify,tool_check}', 4 * 2 * 16, lambda of: of.own == of.program_verify),
     ('tool_check_of_no_text', 0, lambda of: of.own > 0),
-    # (the long argument is copied to a buffer that grows, and nothing else is asked for)
+    # The long argument is copied to a buffer that grows, and nothing else is asked for.
     ('tool_check_of_more_lanes', 0, lambda of: of.own <= of.tool_check_of_no_text + 16),
 ) for label in labels_of(patterns)}
 
 
 @pytest.fixture(scope='module')
 def sweeps():
-    """Each sweep's label, its command and, unless it is a test, the expected result."""
+    """Returns each sweep's label, its command and, unless it is a test, the expected result."""
     files = (path for path in TOP.glob('crates/*/src/**/*.rt') if '#[test]' in path.read_text(encoding='utf-8'))
     binaries = [copy_of(f'{crate}_tests') for crate in sorted({path.relative_to(TOP).parts[1] for path in files})]
     names = [(binary, name) for binary in binaries
@@ -121,7 +121,7 @@ def sweeps():
 
 
 def end_of(came, expected):
-    """The result of a run. A test, without an expected output, reports it in its first line."""
+    """Returns the result of a run. A test, without an expected output, reports it in its first line."""
     if expected:
         return came.end(*expected)
     said = came.output.partition('\n')[0]
@@ -130,7 +130,7 @@ def end_of(came, expected):
 
 
 def denials(variable, ends):
-    """The variables that let faults.c refuse the first, the second and so on, and each run's expected end."""
+    """Yields the variables that let faults.c refuse the first, the second and so on, and each run's expected end."""
     for number, end in enumerate(ends, 1):
         yield {variable: number, 'REFUSE_TRIES': TRIES if end == NO_WORKER else 1}, end
         if end == NO_WORKER:

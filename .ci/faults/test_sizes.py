@@ -31,12 +31,12 @@ DRAW = random.Random(SEED)
 
 
 def of_a_magnitude(least, most):
-    """A random number between two, of random magnitude."""
+    """Returns a random number between two, of random magnitude."""
     return min(most, int(least * (most / least) ** DRAW.random()) + DRAW.randint(0, 1))
 
 
 def drawn(number, most_memory, most_lanes=MOST_LANES):
-    """A hash of a drawn size; the first few are the largest of a kind."""
+    """Returns a hash of a drawn size; the first few are the largest of a kind."""
     lanes = most_lanes if number == 0 else of_a_magnitude(1, min(most_lanes, most_memory // 8))
     memory = most_memory if number == 1 else of_a_magnitude(8 * lanes, most_memory)
     passes = of_a_magnitude(1, max(1, min(MOST_PASSES, most_memory // memory)))

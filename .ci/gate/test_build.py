@@ -35,7 +35,7 @@ PROGRAMS, OTHER = ('x86-64-v2/argon2_program', 'x86-64-v2/argon2_tool'), 'x86-64
     (PROGRAMS[:1], None, OTHER, False), ((*PROGRAMS, OTHER), None, OTHER, False),
     (PROGRAMS[:1], PROGRAMS[1], OTHER, False), (PROGRAMS, OTHER, OTHER, False)])
 def test_only_an_archive_lacks_files_and_only_those_without_a_licence(tmp_path, absent, forged, tracked, is_well):
-    """There git tracks none of them."""
+    """In a repository that begins with an archive, git tracks none of them."""
     release = tmp_path / 'release'
     (release / OTHER).parent.mkdir(parents=True)
     for name in *PROGRAMS, OTHER:
@@ -80,7 +80,7 @@ def copy_parts(folder, *names):
 
 
 def test_release_is_built_in_a_folder_that_has_only_its_sources(tmp_path):
-    """What else lies among them takes no part, and neither does the environment. A stand-in for the build notes what it
+    """Other files among them take no part, and neither does the environment. A stand-in for the build notes what it
     sees."""
     copy_parts(tmp_path, 'VERSION', 'build', 'bindings', 'crates', 'crates.txt')
     for name in PLANTED:

@@ -32,7 +32,7 @@ def has_fewer(commit):
 
 @pytest.mark.skipif(run('git', 'rev-parse', 'HEAD').returncode, reason='this is no repository of git with commits')
 def test_each_commit_says_what_and_why():
-    # (in a shallow clone, those commits that are there)
+    # In a shallow clone, these are the commits that are there.
     before = [f'^{BEGUN}~'] * (run('git', 'cat-file', '-t', f'{BEGUN}~').stdout == 'commit\n')
     for commit in run('git', 'rev-list', 'HEAD', *before).stdout.split():
         parents, subject, body = run('git', 'log', '-1', '--format=%P%n%s%n%b', commit).stdout.split('\n', 2)

@@ -42,7 +42,7 @@ def vector(number, size):
 
 
 def operand(text):
-    """Functions that read and write a register or number."""
+    """Returns functions that read and write a register or number."""
     if re.fullmatch(r'#-?(0x[0-9a-f]+|\d+)|0x[0-9a-f]+', text):
         number = int(text.removeprefix('#'), 0) & MASK
         return (lambda machine: number), None
@@ -179,7 +179,7 @@ def control(mnemonic, words):
 
 @functools.cache
 def decode(text):
-    """An instruction as a step."""
+    """Returns an instruction as a step."""
     mnemonic, _, rest = text.partition('\t')
     words = parts(rest)
     if mnemonic == 'nop':

@@ -24,20 +24,22 @@ X86, ARM64, OBJECT = 62, 183, 1  # (numbers of ELF)
 # For each machine: the prefix of binutils' names, objdump's options, and what runs and reads instructions.
 KINDS = {X86: ('', ('-M', 'intel'), x86.X86, x86.decode), ARM64: ('aarch64-linux-gnu-', (), arm64.Arm64, arm64.decode)}
 WINDOWS = 'x86_64-w64-mingw32-', *KINDS[X86][1:]
-# Where memset is in objects that are linked here without a C library; its names elsewhere (build/link).
+# In objects that are linked here without a C library, memset is at this address. Elsewhere it has these names
+# (build/link).
 OUTSIDE, CLEARS = 16, ('memset', 'memset@plt', 'proved_driver_memset', 'proved_sysv_memset')
 LINKS = ('ld', '-zseparate-code', '--entry=0', '--unresolved-symbols=ignore-all',
          f'--defsym=memset={OUTSIDE}', '--whole-archive')
-# (a Windows linker leaves nothing unresolved, and gcc knows what is needed)
+# A Windows linker leaves nothing unresolved, and gcc knows what is needed.
 LINKS_FOR_WINDOWS = 'gcc-posix', '-shared', '-nostartfiles', '-Wl,--entry=0', '-Wl,--whole-archive'
 LABEL = re.compile(r'([0-9a-f]+) <(.*)>:')
 LINE = re.compile(r' *([0-9a-f]+):\t([0-9a-f ]+?) *\t(.*?)(?:\s*(?:# |//).*)?')
 TARGET = re.compile(r'([0-9a-f]+) <.*')  # (of a jump)
 JUMP = re.compile(r'(?:[\w.]+ +)*(?:call|j\w+|loop\w*|xbegin|bl?(?:\.\w+)?|[ct]bn?z)\s(?:.*\s)?(0x[0-9a-f]+)')
-# How segments of code and of constants are mapped; the same of a DLL's sections (Microsoft's "PE Format").
+# The system maps segments of code and of constants with these rights. A DLL's sections have these (Microsoft's "PE
+# Format").
 CODE, CONSTANTS = P_FLAGS.PF_R | P_FLAGS.PF_X, P_FLAGS.PF_R
 EXECUTABLE, WRITABLE = 0x20000000, 0x80000000
-# What fills a block for C, and may prefetch the next one's reference.
+# This function fills a block for C, and may prefetch the next one's reference.
 AHEAD = 'proved_argon2_fill_ahead'
 # The instructions that multiply 32-bit numbers in vectors: no others make blocks as fast.
 MULTIPLIES = re.compile(r'v?pmulu?dq |vpmullq |vpmadd52|[us]m(?:ul|la|ls)l2?\tv\d+\.2d')
@@ -105,7 +107,7 @@ class Code:
                    for before, text in pairwise(['', *texts]))
 
     def multiplications(self):
-        """The instructions with which blocks can be made."""
+        """Returns the instructions with which blocks can be made."""
         return {at for at, (text, _) in self.instructions.items() if MULTIPLIES.match(text)}
 
     def begins(self, function):
@@ -132,7 +134,7 @@ class Code:
 
 
 def of_segments(path):
-    """The code and the constants of an ELF file: ranges by size, address and place in the file."""
+    """Returns the code and the constants of an ELF file: ranges by size, address and place in the file."""
     with open(path, 'rb') as file:
         loaded = [segment for segment in ELFFile(file).iter_segments() if segment['p_type'] == 'PT_LOAD']
         return [[(segment['p_filesz'], segment['p_vaddr'], segment['p_offset']) for segment in loaded
@@ -140,7 +142,7 @@ def of_segments(path):
 
 
 def of_dll(content):
-    """The same of a DLL of 64 bits."""
+    """Returns the same of a DLL of 64 bits."""
     header, = struct.unpack_from('<I', content, 0x3c)
     count, = struct.unpack_from('<H', content, header + 6)
     size, = struct.unpack_from('<H', content, header + 20)

@@ -16,8 +16,9 @@ CONDITIONS = {'e': operator.eq, 'ne': operator.ne, 'b': operator.lt, 'ae': opera
 class Machine:
     """A processor that begins a function. Its registers hold terms. Memory consists of regions: the stack, and those
     that the function is passed, by their size in bytes. It may write only to the stack and `written`."""
-    # Where integers are passed, the stack pointer, what a function has to preserve, the part of its caller's stack that
-    # it owns, and where the stack pointer may be at its start, in bytes above a multiple of the largest alignment.
+    # The registers of integer arguments, the stack pointer, the registers that a function has to preserve, and the part
+    # of its caller's stack that it owns. At its start the stack pointer may be this many bytes above a multiple of the
+    # largest alignment.
     arguments, stack_pointer, saved, own_of_caller, entries = (), '', (), 0, ()
 
     def __init__(self, code, regions, written, entry):
@@ -44,7 +45,7 @@ class Machine:
         raise Fault(f'it has not returned after {STEPS} instructions')
 
     def find(self, word):
-        """An address's region, and its offset in that; or None."""
+        """Returns an address's region, and its offset in that; or None."""
         number, terms = linear(word)
         (base, factor), = terms.items() if len(terms) == 1 else [(STACK, 0)]
         if factor != 1 or base is not STACK and base.parts[0] not in self.regions:
@@ -52,7 +53,7 @@ class Machine:
         return base.parts[0], number if number < 1 << BITS - 1 else number - (1 << BITS)
 
     def places(self, address, count, unit):
-        """The places of words in memory, for an instruction that needs them aligned to a unit."""
+        """Returns the places of words in memory, for an instruction that needs them aligned to a unit."""
         region, at = self.find(address) or (None, 0)
         if region is None:
             raise Fault('it computes an address')
@@ -89,7 +90,7 @@ class Machine:
         """Clears memory as memset does."""
         if not isinstance(size, int) or size % WORD or byte != 0:
             raise Fault('it fills memory with other than words of zero')
-        # (places() first rejects a wrong size, whose zeros may exceed memory)
+        # places() first rejects a wrong size, whose zeros may exceed memory.
         self.store(address, [0] * len(self.places(address, size // WORD, WORD)))
 
     def clear_words(self):
@@ -128,19 +129,19 @@ class Machine:
 
 
 def parts(text):
-    """The operands of an instruction: a comma within brackets divides none."""
+    """Returns the operands of an instruction: a comma within brackets divides none."""
     return [part.strip() for part in re.findall(r'(?:[^,\[]|\[[^\]]*\])+', text)]
 
 
 def known(word, fault):
-    """A number, where data would be a fault."""
+    """Returns a number, where data would be a fault."""
     if not isinstance(word, int):
         raise Fault(fault)
     return word
 
 
 def half_known(number):
-    """A register of whose upper half nothing is known."""
+    """Returns a register of whose upper half nothing is known."""
     return joined((number, 0, BITS // 2), (variable('upper half'), 0, BITS // 2))
 
 
@@ -151,7 +152,7 @@ def register(name, mask):
 
 
 def computed(function, sources, target):
-    """The step that writes what a function makes of operands."""
+    """Returns the step that writes what a function makes of operands."""
     return lambda machine: target(machine, function(*(source(machine) for source in sources)))
 
 

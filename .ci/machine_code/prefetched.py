@@ -23,7 +23,7 @@ def is_prefetch(text):
 
 
 def faults_of_body(texts, idle):
-    """What is wrong with the function's instructions, of which those behind the return do nothing."""
+    """Returns what is wrong with the function's instructions. Those behind the return must do nothing."""
     end = texts.index('ret') if 'ret' in texts else len(texts)
     others = [text for text in texts[:end] if not is_prefetch(text)] + \
         [text for text in texts[end + 1:] if not idle.match(text)]
@@ -37,12 +37,12 @@ def faults_of_module(module):
 
 
 def builds_for_c(code, builds):
-    """The builds of a file that has calls for C, as each module has."""
+    """Returns the builds of a file that has calls for C, as each module has."""
     return builds if not hasattr(code, 'names') or any(map(OF_C.fullmatch, code.names.values())) else []
 
 
 def faults_of_prefetches(code, builds, idle):
-    """What is wrong with the function in a file, for each of its builds if the file has calls for C."""
+    """Returns what is wrong with the function in a file, for each of its builds if the file has calls for C."""
     if not hasattr(code, 'names'):
         return faults_of_module(code)
     bodies = [[text for text, _ in code.bodies[begin].values()] for begin in begins(code)]

@@ -83,7 +83,7 @@ def forget():
 
 
 def linear(word):
-    """A word as a number and terms with their factors, whose sum it is."""
+    """Returns a word as a number and terms with their factors, whose sum it is."""
     if isinstance(word, int):
         return word, {}
     if word.kind == 'sum':
@@ -96,7 +96,7 @@ def linear(word):
 
 
 def total(number, terms):
-    """The sum of a number and of terms by their factors."""
+    """Returns the sum of a number and of terms by their factors."""
     number, terms = number & MASK, {term: factor & MASK for term, factor in terms.items() if factor & MASK}
     if number == 0 and len(terms) == 1:
         (term, factor), = terms.items()
@@ -116,14 +116,14 @@ def exclusive_or(*words):
 
 
 def factored(word):
-    """A word as another one and a factor."""
+    """Returns a word as another one and a factor."""
     number, terms = linear(word)
     return next(iter(terms.items())) if (number, len(terms)) == (0, 1) else (word, 1)
 
 
 @functools.cache
 def cut(word, first, width):
-    """Pieces that make some bits of a word."""
+    """Returns pieces that make some bits of a word."""
     if isinstance(word, int):
         return ((word >> first & (1 << width) - 1, 0, width),)
     found, at = [], 0
@@ -137,7 +137,7 @@ def cut(word, first, width):
 
 
 def joined(*pieces):
-    """The word that pieces make. For pieces of one XOR, it is the XOR of its terms' pieces."""
+    """Returns the word that pieces make. For pieces of one XOR, it is the XOR of its terms' pieces."""
     found = []
     for word, first, width in (piece for piece in pieces if piece[2]):
         last, begin, size = found[-1] if found else (None, 0, 0)
@@ -158,7 +158,7 @@ def joined(*pieces):
 
 
 def merged(one, other):
-    """The word whose bits are those of two words that have none in common, or None."""
+    """Returns the word whose bits are those of two words that have none in common, or None."""
     pieces = []
     ends = {end for word in (one, other) for end in accumulate(piece[2] for piece in cut(word, 0, BITS))}
     for begin, end in pairwise(sorted({0, *ends})):
@@ -170,8 +170,8 @@ def merged(one, other):
 
 
 def picked(words, places, width):
-    """The words that consist of the elements at these places of other words. An element has `width` bits. Behind the
-    words are zeros."""
+    """Returns the words that consist of the elements at these places of other words. An element has `width` bits.
+    Behind the words are zeros."""
     per, words = BITS // width, (*words, 0)
     parts = [cut(words[min(at // per, len(words) - 1)], at % per * width, width) for at in places]
     return tuple(joined(*chain(*parts[at:at + per])) for at in range(0, len(parts), per))

@@ -27,7 +27,7 @@ RELEASE, SEED = TOP / 'release', os.environ.get('SEED') or random.randrange(1 <<
 FILES = 'x86_64/libproved_argon2.a', 'aarch64/libproved_argon2.a', 'wasm32/proved_argon2.wasm'
 # This module has the same instructions, except for the numbers of the functions that are called.
 SAME = 'wasm32/proved_argon2_shared.wasm'
-# (What only calls the compression elsewhere is attacked where it is one.)
+# What only calls the compression elsewhere is attacked where it is one.
 ATTACKED = [(name, function) for name in FILES for function in FUNCTIONS if function.name != AHEAD or name == FILES[0]]
 DRAWN, UNTIL_FORGOTTEN, SHARED = 300, 100, 'x86_64/libproved_argon2.so.1.0.0'
 # A load, a store, a call and a prefetch of other memory, each as long as the first prefetch.
@@ -38,7 +38,7 @@ WIDE = (re.compile('movabs .*'), 2, 10), (re.compile(r'movk\t.*|mov\tx\d+, #0x[0
 
 
 def read_with(code, bits):
-    """The code with bits flipped, each given as the place of its byte in the file and its number."""
+    """Returns the code with bits flipped, each given as the place of its byte in the file and its number."""
     content = bytearray(code.content)
     for place, bit in bits:
         content[place] ^= 1 << bit
@@ -70,7 +70,7 @@ class Attacked:
         self.found, self.same, self.tried = 0, [], 0
 
     def runs(self, code, address):
-        """All runs; those that meet the change come first."""
+        """Returns all runs; those that meet the change come first."""
         cases = [(flag, entry) for entry in code.kind.entries for flag in FLAGS]
         return sorted(cases, key=lambda case: address is not None and address not in self.met[case[0]])
 
@@ -155,7 +155,7 @@ def test_each_change_is_found_or_computes_the_same(name, function):
 
 
 def test_both_modules_have_the_same_instructions():
-    """So one attack covers both."""
+    """One attack covers both for this reason."""
     texts = [[re.sub(r'^call .*', 'call', text) for function in FUNCTIONS for begin in code.begins(function)
               for text, _ in code.bodies[begin].values() if not text.startswith('local[')]
              for code in (code_of(RELEASE / name) for name in (FILES[-1], SAME))]

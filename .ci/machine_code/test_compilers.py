@@ -20,11 +20,11 @@ DRAWN, SEED = 4 * 10_000, os.environ.get('SEED') or str(random.randrange(1 << 32
 
 @pytest.fixture(scope='module')
 def libraries(built):
-    """The folders with the libraries as each compiler makes them."""
+    """Returns the folders with the libraries as each compiler makes them."""
     for processor in MACHINE.proved:
         output_of('env', 'BACKEND=rattle', 'build/prove', f'{processor}/{ARCHIVE}')
         assert 'backend=rattle' in (OTHER / processor / f'{ARCHIVE}.said').read_text(encoding='utf-8')
-    # (a build with a kernel is copied from those of LLVM)
+    # A build with a kernel is copied from those of LLVM.
     for kernel in MACHINE.builds[len(MACHINE.proved):]:
         shutil.copytree(built / kernel, OTHER / kernel, dirs_exist_ok=True)
     output_of('build/link', MACHINE.name, OTHER, OTHER)

@@ -20,7 +20,7 @@ from terms import BITS
 from validated import FLAGS, FUNCTIONS, code_of, faults_of
 
 LISTED = re.findall(r'^[0-9a-f]{64}  (\S+)$', (TOP / 'release/MANIFEST').read_text(encoding='utf-8'), re.M)
-# (an import library has no code but jumps)
+# An import library has no code but jumps.
 FILES = [name for name in LISTED if not re.search(r'\.([ch]|dll\.a)$', name)]
 PLACES, BLOCK, LINE = 30, 1024, 64  # (drawn for a test; in bytes)
 
@@ -36,8 +36,8 @@ def test_machine_code(name):
 
 
 def drawn_place():
-    """A setting of one lane, and a pass, slice and index, behind which the segment has a block. (In the first slice of
-    pass 0, few blocks are before the index.)"""
+    """Returns a setting of one lane, and a pass, slice and index, behind which the segment has a block. (In the first
+    slice of pass 0, few blocks are before the index.)"""
     segment, r = random.choice((2, 3, 100, 1 << 12)), random.randrange(3)
     setting = rfc9106.Setting(rfc9106.D, 19, r + 1, 4 * segment, 1, 32, b'', b'')
     return setting, r, random.randrange(0 if r else 1, 4), random.randrange(segment - 1)

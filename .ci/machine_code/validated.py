@@ -57,7 +57,7 @@ class Function:
             defined = self.definition(flag, *regions.values(), *([words] if words else []))
             return machine, machine.fault(defined, self.cleared)
         except (Fault, TypeError, ValueError, LookupError, AttributeError) as fault:
-            # (a changed instruction may have any operand; if it cannot run, it is wrong)
+            # A changed instruction may have any operand; if it cannot run, it is wrong.
             return machine, f'{fault} ({machine.after:#x})'
 
 
@@ -80,7 +80,7 @@ def code_of(path):
 
 
 def builds_of(path):
-    """The builds for a file's machine."""
+    """Returns the builds for a file's machine."""
     folder = path.parent.name
     found = machines().get(folder.removeprefix('windows-'))
     return found.builds if found else [folder]
@@ -103,7 +103,7 @@ def faults_of_function(code, function, begin):
 
 
 def builds_with(function, path, code):
-    """The builds of a file that have a function."""
+    """Returns the builds of a file that have a function."""
     return builds_for_c(code, builds_of(path)) if function.name == AHEAD else builds_of(path)
 
 

@@ -71,7 +71,8 @@ class Module:
                    for text, _ in body.values())
 
     def behind(self, export):
-        """The functions that an exported one leads to, itself first: each passes its last argument on to the next."""
+        """Returns the functions that an exported one leads to, itself first: each passes its last argument on to the
+        next."""
         numbers = re.findall(rf' - func\[(\d+)\].* -> "{export}"', self.exports)
         for number in numbers:
             numbers += [text.removeprefix('call ') for (before, _), (text, _) in pairwise(self.bodies[number].values())
@@ -79,19 +80,19 @@ class Module:
         return numbers
 
     def multiplications(self):
-        """The instructions with which blocks can be made."""
+        """Returns the instructions with which blocks can be made."""
         found = ({at for at, (text, _) in body.items() if text == 'i64.mul'} for body in self.bodies.values())
         return set().union(*(places for places in found if len(places) > MANY))
 
     def begins(self, function):
-        """The functions with the instructions (`only`) that identify this one, or that its export leads to."""
+        """Returns the functions with the instructions (`only`) that identify this one, or that its export leads to."""
         return [number for number, body in self.bodies.items()
                 if {*function.only} <= {text for text, _ in body.values()}] if function.only else \
             self.behind(function.name)[-1:]
 
 
 def led(body):
-    """The instructions of a function, each with where a jump leads, and the last one with RETURN."""
+    """Yields the instructions of a function, each with where a jump leads, and the last one with RETURN."""
     body = {at: instruction for at, instruction in body.items() if not instruction[0].startswith('local[')}
     begun, targets, jumps, last = [], {}, {}, [*body][-1]
     for at, (text, _) in body.items():
@@ -167,7 +168,7 @@ class Wasm(Machine):
         return None
 
     def cut(self, word):
-        """Its lowest 32 bits."""
+        """Returns its lowest 32 bits."""
         return word if self.find(word) else word & LOW
 
     def lacks_stack(self, least, at):
@@ -188,7 +189,7 @@ class Wasm(Machine):
         return to if known(chooses, 'it chooses by data') else None
 
 
-# How many operands an instruction takes off the stack, and what it makes of them and of its offset, if any.
+# An instruction takes this many operands off the stack, and makes this of its offset, if any, and of them.
 OPERATIONS = {
     'i64.add': (2, lambda _, x, y: add(x, y)), 'i64.sub': (2, lambda _, x, y: x - y & MASK),
     'i64.mul': (2, lambda _, x, y: x * y & MASK), 'i64.xor': (2, lambda _, x, y: x ^ y),

@@ -121,7 +121,8 @@ def by_lanes(function):
 
 
 def places(words, width, count):
-    """Elements of constant words, each of which is a place. In an upper half, LLVM's places may begin at `count`."""
+    """Returns elements of constant words, each of which is a place. In an upper half, LLVM's places may begin at
+    `count`."""
     found = [word >> at & (1 << width) - 1 for word in words if isinstance(word, int) for at in range(0, BITS, width)]
     if len(found) < len(words) * BITS // width or {place // count for place in found} not in ({0}, {1}):
         raise Fault('it shuffles by other than places')
@@ -150,7 +151,7 @@ def permuted(first, second):
 
 
 def by_pairs(one, other, order):
-    """Two pairs of one vector's words, and two of another's."""
+    """Returns two pairs of one vector's words, and two of another's."""
     if len(one) < WIDEST:
         raise Fault('it shuffles fewer than four pairs')
     return tuple(chain.from_iterable(
@@ -163,8 +164,8 @@ def added_to_both(words, one, other, table):
     return tuple(x ^ y ^ z for x, y, z in zip(words, one, other))
 
 
-# How each instruction computes its result from the operands that it reads. Those of ONTO also read the first operand,
-# which they write.
+# Each instruction computes its result from the operands that it reads by these functions. Those of ONTO also read the
+# first operand, which they write.
 UNALIGNED = 'movups', 'movupd', 'movdqu', 'movdqu32', 'movdqu64'
 MOVES = 'movaps', 'movapd', 'movdqa', 'movdqa32', 'movdqa64', *UNALIGNED
 XOR = dict.fromkeys(('pxor', 'pxord', 'pxorq', 'xorps', 'xorpd'), each(lambda x, y: x ^ y))
@@ -195,7 +196,7 @@ WITH_FLAGS = {
 
 
 def without_flags(step):
-    """A step after which nothing is known of the flags."""
+    """Returns a step after which nothing is known of the flags."""
     def done(machine):
         step(machine)
         machine.flags = None

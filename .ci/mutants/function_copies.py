@@ -31,7 +31,7 @@ class Copy:
         return self.name in place.split('::')
 
     def proofs(self, folder):
-        """The texts of its proofs by their paths in the crate, made from those of its function."""
+        """Returns the texts of its proofs by their paths in the crate, made from those of its function."""
         begin, name = self.function.folders, self.function.name
         found = folder.joinpath('proofs', *begin, name)
         old, new = ('.'.join([rf'Rattle.{self.edit.crate}.proofs', *begin, part, '']) for part in (name, self.name))
@@ -54,7 +54,7 @@ def can_be_copied(edit, folder):
 
 
 def texts_with(copies, folder):
-    """The texts of a crate's files with copies in them, by their paths in the crate."""
+    """Returns the texts of a crate's files with copies in them, by their paths in the crate."""
     texts = {path: text for copy in copies for path, text in copy.proofs(folder).items()}
     for copy in sorted(copies, key=lambda copy: -copy.function.last):
         path = copy.module.file.relative_to(folder).as_posix()
@@ -85,7 +85,7 @@ class Report:
         return is_refused and not (self.has_fault(place) and not any(self.goals_left(place)))
 
     def errors_of(self, place):
-        """The errors in a function's proofs: recursive functions have a mark before their name."""
+        """Returns the errors in a function's proofs: recursive functions have a mark before their name."""
         *folders, name = place.split('::')[1:]
         folders = tuple('/'.join(['proofs', *folders, mark + name, '']) for mark in ('', '+'))
         return [error for error in self.errors if error[0].startswith(folders)]
@@ -95,8 +95,8 @@ class Report:
         return any(map(is_put_there, self.errors_of(place)))
 
     def goals_left(self, place):
-        """A function's unproved goals with the reasons, and those whose proof only names something missing. For a
-        missing name in a `use`, the checker names no goal."""
+        """Returns a function's unproved goals with the reasons, and those whose proof only names something missing. For
+        a missing name in a `use`, the checker names no goal."""
         left, named = dict.fromkeys(self.unproved.get(place, []), 'it is not proved'), {}
         for goals in SEARCHED.findall(self.verdicts.get(place, '')):
             left.update(dict.fromkeys(re.findall(r'`([^`]+)`', goals), 'search did not prove it'))
@@ -112,6 +112,6 @@ def is_put_there(error):
 
 
 def clause_of(goal):
-    """A goal by its clause alone, without the branch of the body in which it is left."""
+    """Returns a goal by its clause alone, without the branch of the body in which it is left."""
     head, clause = re.match(r'returns|loop-\w+-(?:init|preserved)', goal), re.search(r'-clause-.*', goal)
     return head[0] + (clause[0] if clause else '') if head else goal

@@ -26,7 +26,7 @@ def files_of(folder):
 
 @pytest.fixture(scope='module')
 def top(tmp_path_factory):
-    """A repository with the crates and the edits."""
+    """Returns a repository with the crates and the edits."""
     made = tmp_path_factory.mktemp('top')
     for folder in ('.ci/mutants', '.ci/shared', 'build'):
         shutil.copytree(TOP / folder, made / folder)
@@ -54,7 +54,7 @@ def test_each_edit_gets_the_expected_verdict(judged, crate, name, begin):
 
 
 def test_a_named_edit_is_judged_and_an_unknown_name_fails(top, judged):
-    """An edit by its name, and an unknown name. Kept work stays unchanged."""
+    """Kept work stays unchanged."""
     before = files_of(top / 'crates/sample/out/incremental')
     (status, good), (wrong, none) = run(top, 'good'), run(top, 'good', 'no_such_edit')
     assert status == 0 and good == {'sample/good': judged[1]['sample/good']}

@@ -32,7 +32,7 @@ WITHOUT_AXIOMS, OF_THE_COMPILER = 'argon2_c', {'memcpy', 'memmove', 'memset'}
 
 
 def lines_of_the_toolchain(top):
-    """The prover, and the axioms that the logic's files declare and accept."""
+    """Returns the prover, and the axioms that the logic's files declare and accept."""
     axioms = [axiom for part in PARTS for path in sorted((top / 'rattle' / part).rglob('*.antt'))
               for axiom in re.findall(r'^ *axiom +(?:pub +)?([^\s:{]+)', read(path), re.M)]
     projects = {path.parent.relative_to(top / 'rattle').as_posix(): json.loads(read(path))
@@ -46,7 +46,7 @@ def lines_of_the_toolchain(top):
 
 
 def report_of(crate, built):
-    """The prover's last report of what is built, or nothing."""
+    """Returns the prover's last report of what is built, or nothing."""
     said, built = TOP / f'bindings/out/{built}.said', TOP / 'bindings/out' / built
     reports = re.findall(r'(?:^(?:logic|crate|axioms|statements|  \S+::) *\S.*\n)+logic=proved .*\n',
                          read(said) if said.exists() else '', re.M)
@@ -93,7 +93,7 @@ def write_reports(top):
 
 
 def with_hash(patterns, reason, *_):
-    """A row of pinned.txt with the hash of its files, in sorted order, with their names."""
+    """Returns a row of pinned.txt with the hash of its files, in sorted order, with their names."""
     found = files(*patterns.split())
     require(found, f'{PINNED}: no file is of {patterns}')
     sums = (f'{hashlib.sha256((TOP / file).read_bytes()).hexdigest()}  {file}\n' for file in found)

@@ -38,7 +38,7 @@ def fill(file, name, part, by):
 
 
 def files(*patterns):
-    """The files of the repository that fit one of these globs, or all, without what is built."""
+    """Returns the files of the repository that fit one of these globs, or all, without what is built."""
     listed = run('git', 'ls-files', '-co', '--exclude-standard', '--', *(f':(glob){one}' for one in patterns)).stdout
     return sorted(name for name in {*listed.splitlines()} if (TOP / name).is_file())
 
@@ -48,12 +48,12 @@ def quoted(names):
 
 
 def link(name, path):
-    """A name in a page of docs/, as a link to its file."""
+    """Returns a name in a page of docs/, as a link to its file."""
     return f'[`{name}`](../{Path(path).relative_to(TOP)})'
 
 
 def row(*cells):
-    """A row of a page's table."""
+    """Returns a row of a page's table."""
     return f'| {" | ".join(map(str, cells))} |'
 
 

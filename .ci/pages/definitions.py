@@ -21,8 +21,8 @@ STEPS = ['proved_argon2_job_begin', 'proved_argon2_job_fill', 'proved_argon2_job
          'any_order_of_steps']
 PRINTED = ['hash_raw', 'verify_encoded_within', 'proved_argon2_hash_over', 'proved_argon2_verify_over']
 CODE = {path: read(path) for path in sorted(TOP.glob('crates/*/src/**/*.rt'))}
-# How an import of definitions begins; a whole import; an import of a type of the code; a definition; and a definition
-# without a comment above it.
+# These match the beginning of an import of definitions, a whole import, an import of a type of the code, a definition,
+# and a definition without a comment above it.
 BEGIN = r'^ *(?:ghost use|use(?= \w+\.)) '
 IMPORT = re.compile(BEGIN + r'((?:\w+\.)*\w+)(?:\.\{([^}]*)\}| as \w+) ?(?:;|$)', re.M)
 OF_A_TYPE = re.compile(r'\.declared\.[a-z0-9_.]*([A-Z]\w*)')
@@ -41,7 +41,7 @@ def definitions_of(file):
 
 @functools.cache
 def imports_of(text):
-    """The file of each of our definitions that a text imports, by its name."""
+    """Returns the file of each of our definitions that a text imports, by its name."""
     found, files = IMPORT.findall(text), {}
     require(len(found) == len(re.findall(BEGIN, text, re.M)), f'an import is not understood: {text[:300]}')
     for module, names in found:
@@ -65,14 +65,14 @@ def closure(found, following):
 
 
 def reached_from(text, imports):
-    """The files that define a text's names, and those they import from."""
+    """Returns the files that define a text's names, and those they import from."""
     words = {*re.findall(r'[^\s(){}\[\],;.@]+', text)}
     own = {file for name, file in imports_of(imports).items() if words.issuperset(filter(None, name.split('◌')))}
     return closure(own, lambda file: imports_of(read(file)).values())
 
 
 def views_of(names):
-    """The views of these types, and of those that they hold: by name the file and the text of `impl Model`."""
+    """Returns the views of these types, and of those that they hold: by name the file and the text of `impl Model`."""
     held = defaultdict(set)
     for name, fields in (pair for text in CODE.values() for pair in TYPE.findall(text)):
         held[name].update(re.findall(r'\w+', re.sub('//.*', '', fields)))
@@ -100,7 +100,7 @@ def order_of(file):
 
 
 def contract_of(call):
-    """The signature and the clauses of a function."""
+    """Returns the signature and the clauses of a function."""
     text = '\n'.join(call.module.text.split('\n')[call.first - 1:call.last])
     return re.split(r'^ *\{\}?$', text, maxsplit=1, flags=re.M)[0].rstrip('\n')
 
@@ -110,7 +110,7 @@ def clauses_of(call):
 
 
 def contracts(calls):
-    """The contracts of the printed calls, and the files of the others, with a hash of their text. A call with
+    """Returns the contracts of the printed calls, and the files of the others, with a hash of their text. A call with
     `_sequential` has the contract of the call without."""
     printed, places = [call for call in calls if call.name in PRINTED], defaultdict(list)
     for call in calls:

@@ -40,7 +40,7 @@ OF_PLACEHOLDER = {
 
 
 def one_line(text):
-    """A text whose comment signs, blanks and line ends are single blanks."""
+    """Returns a text whose comment signs, blanks and line ends are single blanks."""
     return re.sub(BLANK, ' ', text)
 
 
@@ -56,7 +56,7 @@ def presets():
 
 
 def go_name(name):
-    """A name as Go writes it: its first word is an abbreviation."""
+    """Returns a name as Go writes it: its first word is an abbreviation."""
     first, *others = name.split('_')
     return first.upper() + ''.join(map(str.title, others))
 
@@ -131,7 +131,7 @@ def errors_for_go(every):
 
 
 def lists():
-    """Each list by the name that places call it."""
+    """Returns each list by the name that places call it."""
     (original, *recommended), every = presets(), [*errors()]
     most = re.search(r'MAX_WORKERS: u32 = (\d+);', read('crates/argon2/src/stored.rt'))
     kits = [line.split(' logic ') for line in read('build/kits.txt').splitlines()]
@@ -156,12 +156,12 @@ def lists():
 
 
 def put_in(values, form):
-    """A form with values in place of its placeholders, as `<name>`."""
+    """Returns a form with values in place of its placeholders, as `<name>`."""
     return re.sub(r'<(\w+)>', lambda mark: values.get(mark[1], mark[0]), form)
 
 
 def part_of(form, items):
-    """The text of a generated part: the form for each item. Items in <wrap> become one wrapped
+    """Returns the text of a generated part: the form for each item. Items in <wrap> become one wrapped
     list, sorted as `rt fmt` sorts imports."""
     before, *wrap = re.split('</?wrap>', form)
     if not wrap:
@@ -171,8 +171,8 @@ def part_of(form, items):
 
 
 def with_values(text, form, values):
-    """A text with these values in all places of a form, and the number of these places. Blanks, line ends and what
-    stands for <.> are kept."""
+    """Returns a text with these values in all places of a form, and the number of these places. Blanks, line ends and
+    what stands for <.> are kept."""
     pieces = re.split(r'<(\w+|\.)>', form)
     kinds = [OF_PLACEHOLDER.get(piece, VALUE) if at % 2 else re.sub(r'(?:\\ )+', lambda _: BLANK, re.escape(piece))
              for at, piece in enumerate(pieces)]

@@ -38,7 +38,7 @@ HELP = {'rt': run('rt', 'help').stdout if shutil.which('rt') else '',
         **dict.fromkeys(('argon2', 'proved-argon2'), ''.join(map(read, (
             'bindings/shell/commands.sh', 'crates/argon2_commands/src/command.rt'))))}
 HELP['./argon2'] = read('argon2') + HELP['argon2']
-# How a help text shows a command's word: after `rt`, as a label of a shell's `case`, between quotes.
+# A help text shows a command's word after `rt`, as a label of a shell's `case`, or between quotes.
 WORD_IN_HELP = r'(?:\brt |\||\b\d:|#     \./argon2 |"){}(?![\w-])'
 # A link with its words, its path and its heading; a page's name; and the pages that are packed without the others.
 LINK = re.compile(r'\[([^\]]*)\]\((?!\w+:)([^)\s#]*)#?([^)\s]*)\)')
@@ -82,7 +82,7 @@ def is_lost_name(word):
 
 
 def lost_words(first, *others):
-    """The words of a command that are not there: its file, its first word or an option."""
+    """Returns the words of a command that are not there: its file, its first word or an option."""
     if first in HELP:
         return [word for word in others[:1] if HELP[first] and re.fullmatch('-*[a-z][a-z-]*', word)
                 and not re.search(WORD_IN_HELP.format(word), HELP[first])]
@@ -91,8 +91,8 @@ def lost_words(first, *others):
 
 
 def faults_of_links(page, text):
-    """The headings that are not there, the names that are not in the files to which they are links, and the pages that
-    are named without a link."""
+    """Yields the headings that are not there, the names that are not in the files to which they are links, and the
+    pages that are named without a link."""
     for name, path, heading in LINK.findall(text):
         to = os.path.normpath(Path(page).parent / path) if path else page
         headings = re.sub(r'[^\w\n -]', '', '\n'.join(re.findall('^#+ (.*)$', text_of(to), re.M)).lower())
@@ -121,7 +121,7 @@ def faults(page, text, is_code):
 
 
 def faults_of(page, text):
-    """The faults of a page's paragraphs, and of the lines of its code for a shell. Other code is left out."""
+    """Yields the faults of a page's paragraphs, and of the lines of its code for a shell. Other code is left out."""
     for language, fenced, apart, paragraph in BLOCK.findall(text):
         code = apart or fenced * (language == 'sh')
         for part in [paragraph, *code.splitlines()]:

@@ -65,7 +65,7 @@ FILLED_IN = [('PROJECT', r'(?s)Publisher: .+', f'Publisher: {PUBLISHER}\nContact
               'Address: https://publisher.org/proved-argon2\n'),
              ('debian/changelog', ' -- .*>', f' -- {PUBLISHER} <{CONTACT}>'),
              ('CHANGELOG.md', 'Unreleased, November 2026', '1 December 2026')]
-# Why the tag is not signed. Each edit is a reason by itself.
+# Each of these edits is a reason not to sign the tag.
 UNSIGNED = {
     'PROJECT has placeholders': ('PROJECT', 'publisher.org/', 'publisher.example/'),
     'a part of the packages that has no licence': ('proved-argon2.spdx', 'Concluded: MIT.*', 'Concluded: NOASSERTION'),
@@ -98,7 +98,7 @@ def test_a_new_address_replaces_the_old_one_everywhere(copy):
 
 @pytest.fixture
 def finished(copy, tmp_path, monkeypatch):
-    """A copy whose publisher has filled in everything, and has a key to sign with."""
+    """Yields a copy whose publisher has filled in everything, and has a key to sign with."""
     (tmp_path / 'keys').mkdir(mode=0o700)
     monkeypatch.setenv('GNUPGHOME', str(tmp_path / 'keys'))
     copy.run('gpg', '--batch', '--passphrase', '', '--quick-gen-key', f'{PUBLISHER} <{CONTACT}>')
@@ -146,7 +146,7 @@ def test_the_tag_is_signed_only_if_nothing_prevents_it(finished):
 
 
 def test_the_commands_of_the_page_make_a_release(finished):
-    """Once CI has passed. Whoever checks it runs the commands of another page."""
+    """CI has passed before. Whoever checks it runs the commands of another page."""
     commit(finished)
     note_that_ci_passed(finished)
     commands, = re.findall(r'^    (\.ci/release/tag)\n    (\./package .*)$', read('docs/PUBLISHING.md'), re.M)
@@ -195,7 +195,7 @@ def test_ci_notes_only_the_commit_that_it_tested(tmp_path, monkeypatch, meanwhil
 
 
 def test_only_a_signature_over_the_checksums_passes_the_command_of_the_page(finished):
-    """By SHA256SUMS.asc alone, gpg accepts any signed message there, and does not read SHA256SUMS."""
+    """If it is passed SHA256SUMS.asc alone, gpg accepts any signed message there, and does not read SHA256SUMS."""
     command, = re.findall(r'^    (gpg --verify .*)$', read('docs/INSTALL.md'), re.M)
     for form, status in ('--detach-sign', 0), ('--clear-sign', 2):
         signed = 'SHA256SUMS' if status == 0 else 'VERSION'
@@ -223,7 +223,7 @@ def test_the_generated_text_about_reports_is_current(copy):
 def test_the_commands_of_the_first_page_run(built):
     """The last output is the verdict. `.ci/run`, which runs this test, only has to exist."""
     commands = re.findall('^    (.*)$', re.sub('^```.*?^```', '', read(FIRST), flags=re.M | re.S), re.M)
-    # (the very first call says where the program was proved)
+    # The very first call says where the program was proved.
     run('./argon2', 'rehash', 'argon2i', '19', '2', '256', '1', '32', '')
     text = re.sub(r'^\.ci/run$', 'test -x .ci/run', '\n'.join(commands), flags=re.M)
     came = run('bash', '-euo', 'pipefail', '-c', text)

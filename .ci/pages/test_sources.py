@@ -51,7 +51,7 @@ def test_each_character_can_be_seen():
 
 
 def test_files_outside_of_ci_do_not_name_it():
-    """Except pages, the marks of parts that its scripts write, and the tests that a release has to pass."""
+    """Pages may, and so may marks of parts that its scripts write, and ./package, whose releases have to pass tests."""
     outside = [name for name in files() if not re.match(r'\.ci/|docs/|release/|setup\.cfg|.*\.md$', name)]
     named = [f'{name}: {line}' for name in outside for line in (TOP / name).read_bytes().decode(
         errors='replace').splitlines() if OF_CI.search(line)]

@@ -1,4 +1,4 @@
-"""Which crates' code is in the proved library for C, by function names.
+"""Function names show which crates' code is in the proved library for C.
 
 At level 0 the toolchain's own compiler inlines nothing, so the symbols of its object are the functions that C's calls
 reach. The toolchain finds these functions before any compiler begins, for all processors: so LLVM's builds, those for
@@ -18,7 +18,7 @@ from toolchain import build_below, load_rt, locked  # noqa: E402
 
 @pytest.fixture(scope='module')
 def functions(tmp_path_factory):
-    """The names of all functions, without the types that they are for."""
+    """Returns the names of all functions, without the types that they are for."""
     if not shutil.which('rt', path='/opt/rattle/bin'):
         pytest.skip('there is no rt, which builds the library at level 0')
     made = tmp_path_factory.mktemp('closure')
@@ -36,8 +36,8 @@ def test_the_library_has_code_of_our_crates_and_of_those_that_the_spdx_file_list
     ours = {folder.name for folder in (TOP / 'crates').iterdir()}
     assert 'argon2_c::job_calls::proved_argon2_job_make' in functions and len(functions) > 300
     listed = {*re.findall('^PackageName: (.*)$', (TOP / 'proved-argon2.spdx').read_text(encoding='utf-8'), re.M)}
-    # (an empty function that stands for an instruction; each build replaces the function that calls it)
+    # This empty function stands for an instruction. Each build replaces the function that calls it.
     others = {name for name in functions if name.partition('::')[0] not in ours}
     assert others <= {'core::hint::spin_loop', 'std::hint::spin_loop'}
-    # (the others belong to tools that link; test_packages.py compares them with the symbols of what is packed)
+    # The others belong to tools that link; test_packages.py compares them with the symbols of what is packed.
     assert listed == {'proved-argon2', 'glibc', 'libgcc', 'mingw-w64'}

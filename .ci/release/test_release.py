@@ -161,7 +161,7 @@ def compare(copy, *before):
 
 
 def test_the_comparison_names_each_difference(compared, copy):
-    """Among the differences is a version of a compiler that no mirror has."""
+    """One of the differences is a version of a compiler that no mirror has."""
     for plant in (forge(*FILES, is_listed=True), add_a_file, edit(LIST, '^# version .*', '# version 9.9.9'),
                   edit(LIST, r'gcc-12=\S+', 'gcc-12=12.9'), edit(LIST, '^# kit .*', '# kit another')):
         plant(copy)
@@ -194,7 +194,7 @@ STAND_INS = {
 
 
 def test_what_only_the_listed_versions_link_is_named(compared, copy, tmp_path):
-    """So a replaced compiler is seen."""
+    """This shows if somebody has replaced a compiler."""
     forge('x86_64/argon2', is_listed=True)(copy)
     for name, text in STAND_INS.items():
         (tmp_path / name).write_text(f'#!/bin/sh\n{text}\n', encoding='utf-8')

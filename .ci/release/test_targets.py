@@ -45,7 +45,7 @@ def named(**variables):
 
 
 def arm(*command, **variables):
-    """A command for ARM64."""
+    """Returns a command for ARM64."""
     return [*named(**variables), QEMU, '-L', ROOT, *command]
 
 
@@ -55,7 +55,7 @@ def compile_for_arm(source, program, *words):
 
 @pytest.fixture(scope='module')
 def on_arm():
-    """The folder with what is linked for ARM64, beside that with what is for x86-64."""
+    """Returns the folder with what is linked for ARM64, beside that with what is for x86-64."""
     if not shutil.which(QEMU) or not shutil.which(CC):
         pytest.skip(f'there is no {QEMU}, {CC}')
     root = run('bindings/tests/aarch64_root', ROOT)
@@ -84,7 +84,7 @@ def python(packages):
 
 @pytest.fixture(scope='module')
 def made():
-    """The folder with what is linked for Windows."""
+    """Returns the folder with what is linked for Windows."""
     if not shutil.which(f'{TOOLS}gcc-posix'):
         pytest.skip('there is no mingw-w64')
     return ready(WINDOWS)
@@ -92,7 +92,7 @@ def made():
 
 @pytest.fixture
 def wine(tmp_path):
-    """A command that runs a program by wine in its own folder, without parts that fetch files or write menus."""
+    """Yields a command that runs a program by wine in its own folder, without parts that fetch files or write menus."""
     if not shutil.which('wine'):
         pytest.skip('there is no wine')
     how = named(WINEPREFIX=tmp_path / 'wine', WINEDEBUG='-all', WINEDLLOVERRIDES='mscoree,mshtml,winemenubuilder.exe=')
@@ -123,7 +123,7 @@ def test_commands_over_pipes_on_arm(on_arm, tmp_path):
 
 
 def test_the_launcher_runs_the_programs_for_arm(on_arm, tmp_path):
-    """(where `uname` names that machine)"""
+    """A stand-in for `uname` names that machine."""
     output_of(*named(MACHINE='aarch64', DESTDIR=tmp_path), './install', '/usr')
     write_program(tmp_path / 'uname', 'echo', 'aarch64')
     tool = tmp_path / 'usr/libexec/proved-argon2/aarch64/argon2_tool'
@@ -154,7 +154,7 @@ def test_libargon2_on_arm_has_its_names_and_returns_the_same(on_arm):
 
 @pytest.mark.parametrize('words', ['somesalt -e', 'somesalt -id -t 2 -k 256 -p 4 -l 24 -r'])
 def test_command_on_arm_prints_the_same(on_arm, words):
-    """Debian's command over either library, and ours."""
+    """Debian's command over either library prints the same as ours."""
     theirs, ours = ([folder / 'argon2', *words.split()] for folder in (ROOT / 'usr/bin', on_arm))
     expected, *others = (output_of(*command, input='password')
                          for command in (arm(*theirs), arm(*theirs, LD_LIBRARY_PATH=on_arm), arm(*ours)))
@@ -195,7 +195,7 @@ def test_packages_of_debian_for_arm(packages, tmp_path):
 # ---- Rust
 
 def passes_its_tests(target, made, folder, linker, runner, flags=''):
-    """(Debian's cargo, over Debian's crates. RUST_BACKTRACE is 0, since wine's dbghelp fails at a backtrace.)"""
+    """Debian's cargo, over Debian's crates. RUST_BACKTRACE is 0, since wine's dbghelp fails at a backtrace."""
     (folder / 'cargo').mkdir()
     (folder / 'cargo/config.toml').write_text(CRATES_OF_DEBIAN, encoding='utf-8')
     of, crate = f'CARGO_TARGET_{target.upper().replace("-", "_")}', TOP / 'bindings/rust'
@@ -213,7 +213,7 @@ def test_crate_passes_its_tests_on_windows(made, tmp_path, wine):
 
 
 def test_crate_passes_its_tests_on_arm(on_arm, tmp_path):
-    """Among them are the outside vectors."""
+    """The tests include the outside vectors."""
     target = 'aarch64-unknown-linux-gnu'
     passes_its_tests(target, on_arm, tmp_path, CC, arm(), f'-L {ROOT}/usr/lib/rustlib/{target}/lib')
 
@@ -231,13 +231,13 @@ KEPT = '. = ALIGN({}); INPUT_SECTION_FLAGS (SHF_ALLOC & !SHF_EXECINSTR) *{}.o(*)
 
 
 def alignment_of(file):
-    """The alignment of an object's constants, which are one section for Windows."""
+    """Returns the alignment of an object's constants, which are one section for Windows."""
     return max(map(int, re.findall(r'\] \.(?:ro)?data\S* .* (\d+)$', output_of('readelf', '-SW', file), re.M)))
 
 
 def others(made, folder, code):
-    """The parts, code or constants, in which a file for Windows differs from the library's objects for Linux, which are
-    linked here at the same addresses."""
+    """Returns the parts, code or constants, in which a file for Windows differs from the library's objects for Linux,
+    which are linked here at the same addresses."""
     objects = [folder / f'proved_argon2_{build}.o' for build in BUILDS]
     output_of('ar', 'x', '--output', folder, ready('x86_64') / 'x86_64' / ARCHIVE)
     for file in objects:  # (a linker would merge equal constants)

@@ -26,7 +26,7 @@ def output_of(*words, **how):
 
 
 def ready(part='x86_64'):
-    """The folder with a part of these sources: release/, or else what is built here (build/prepare)."""
+    """Returns the folder with a part of these sources: release/, or else what is built here (build/prepare)."""
     return Path(output_of('build/prepare', part, stderr=subprocess.DEVNULL).strip())
 
 
@@ -38,7 +38,7 @@ def has_processor(build):
 
 
 def checks_at_once(rt):
-    """As many as fit into memory: a check of the largest crate took four fifths of 3 GB."""
+    """Returns how many checks fit into memory: one of the largest crate took four fifths of 3 GB."""
     return max(1, min(rt.processors(), int(rt.free() / 3_000_000_000)))
 
 
@@ -50,5 +50,5 @@ def lines(path):
 
 
 def rows(path):
-    """The lines of a table, each split at ` | `."""
+    """Returns the lines of a table, each split at ` | `."""
     return [[part.strip() for part in f'{line} '.split(' | ')] for line in lines(path)]

@@ -36,7 +36,7 @@ EDIT = re.compile(rf'(?=file: )(?:{PAIR.pattern}|^goal: .+|\n)+', re.M)
 
 
 def crates():
-    """The crates of the repository, in the order of crates.txt."""
+    """Returns the crates of the repository, in the order of crates.txt."""
     names = re.findall(r'^(\w+)', (TOP / 'crates.txt').read_text(encoding='utf-8'), re.M)
     assert names, 'crates.txt names no crate'
     return names
@@ -133,7 +133,7 @@ class Sources:
                 self.walk((*place, name), (*public, name))
 
     def path_of(self, function):
-        """The public path of a function, or None where users do not reach it."""
+        """Returns the public path of a function, or None where users do not reach it."""
         what, of, name = function.what, function.of, function.name
         place = '::'.join(self.places.get(function.module.path + (of or name,), ()))
         if not place or what in self.hidden or not (what or function.is_public):
@@ -157,7 +157,8 @@ class Edit:
         self.fault = next(self.faults(counts, sources), None)
 
     def parse(self):
-        """The file of each pair of texts, and the pair: the second replaces the first. Empty if this is no edit."""
+        """Returns the file of each pair of texts, and the pair: the second replaces the first. Empty if this is no
+        edit."""
         found = PAIR.findall(self.text) if EDIT.fullmatch(self.text) else []
         files = accumulate((path for path, *_ in found), lambda last, path: path or last)
         return [(TOP / 'crates' / self.crate / file, *texts) for file, (_, *texts) in zip(files, found)]
@@ -185,7 +186,7 @@ class Edit:
         yield from filter(None, map(self.lost_promise, self.edited, self.edited.values()))
 
     def lost_promise(self, file, text):
-        """A clause or ghost item that the edited file lacks: a mutant has to promise what the original does."""
+        """Returns a clause or ghost item that the edited file lacks: a mutant has to promise what the original does."""
         if self.is_of_theorem or (TOP / 'crates' / self.crate / STATEMENTS).exists():
             return None
         if 'src' not in file.relative_to(TOP / 'crates' / self.crate).parts:
@@ -196,7 +197,7 @@ class Edit:
 
 
 def blocks_of_edits(folder):
-    """The text of each mutant of a crate, below a line with its verdict and its name."""
+    """Yields the text of each mutant of a crate, below a line with its verdict and its name."""
     for file in sorted(folder.glob(f'{TRIED_ALONE}/*.edit')):
         yield f'{REFUSED} {file.stem}\n{file.read_text(encoding="utf-8")}'
     text = (folder / MUTANTS).read_text(encoding='utf-8') if (folder / MUTANTS).exists() else ''
@@ -204,7 +205,7 @@ def blocks_of_edits(folder):
 
 
 def edits(sources):
-    """All mutants, folder by folder, also those of a folder that crates.txt lacks, which nothing else tries."""
+    """Returns all mutants, folder by folder, also those of a folder that crates.txt lacks, which nothing else tries."""
     found = [Edit(folder.name, block, sources) for folder in sorted(TOP.glob('crates/*/'))
              for block in blocks_of_edits(folder)]
     assert found, 'there is no edit'

@@ -19,8 +19,8 @@
         (settings)->hash_length
 #define EACH_INPUT SHOWN(pwd), SHOWN(salt), SHOWN(secret), SHOWN(ad), EACH(settings)
 
-/* What is returned by proved_argon2_check, by any call that computes, by proved_argon2_read, and by
- * proved_argon2_memory_new; and how many bytes each KiB of such a memory takes. */
+/* The numbers that proved_argon2_check, any call that computes, proved_argon2_read and proved_argon2_memory_new return;
+ * and the bytes that each KiB of such a memory takes. */
 static uint32_t checking, answer, reading, shortage, kib;
 
 /* The arguments of the last call of each kind: that computes, that checks, and that does neither. */
@@ -32,8 +32,8 @@ static char passed[KINDS][400];
 static uint32_t threads;
 static int64_t memory_len, progress_result;
 
-/* How many memories were asked for, how many exist now (one that was freed with a wrong length still counts), and how
- * many existed at once. */
+/* Counts the memories that were asked for, that exist now (one that was freed with a wrong length still counts), and
+ * that existed at once. */
 static uint32_t asked, memories, most_memories;
 
 void set_answers(uint32_t check, uint32_t then, uint32_t read, uint32_t memory, uint32_t kib_size)

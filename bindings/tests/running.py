@@ -1,4 +1,4 @@
-"""What the tests here share: what is built, commands, and what they need."""
+"""The tests of the bindings share this: what is built, commands, and what they need."""
 import functools
 import os
 import pathlib
@@ -13,7 +13,7 @@ import pytest
 
 TOP = pathlib.Path(__file__).resolve().parents[2]
 MACHINE = os.uname().machine
-# (once, since pytest changes its variables while threads start programs)
+# We read this once, since pytest changes its variables while threads start programs.
 ENVIRONMENT = {**os.environ}
 CC = ENVIRONMENT.get("CC", "cc")
 sys.path.append(str(TOP / "build"))
@@ -61,7 +61,7 @@ def needs(*programs):
 
 
 def start(*words, env=(), cwd=TOP, timeout=2400, **named):
-    """A command that has ended, with its output."""
+    """Returns a command that has ended, with its output."""
     named = {"stdin": None if "input" in named else subprocess.DEVNULL, "capture_output": True, "text": True, **named}
     without = {name: value for name, value in {**ENVIRONMENT, **dict(env)}.items() if value is not None}
     return subprocess.run([*map(str, words)], env={name: str(value) for name, value in without.items()}, cwd=cwd,
@@ -90,7 +90,7 @@ def fetch(call, *words, release="sid"):
 
 @functools.lru_cache(None)
 def built(part=MACHINE):
-    """The folder with a linked part, as proved and built here or in release/."""
+    """Returns the folder with a linked part, as proved and built here or in release/."""
     return pathlib.Path(run("build/prepare", part, timeout=4800).strip())
 
 
@@ -121,7 +121,7 @@ def ahead(request, name, work, at_once=None):
 
 
 def rows(path):
-    """The lines of a table, except comments, as lists of what stands between ` | `."""
+    """Returns the lines of a table, except comments, as lists of what stands between ` | `."""
     lines = path.read_text(encoding="utf-8").splitlines()
     return [[part.strip() for part in f"{line} ".split(" | ")] for line in lines if line and line[0] != "#"]
 
@@ -136,36 +136,36 @@ def build_preloaded(source, folder):
 
 
 def in_namespace(script, *words):
-    """The words that run bash in its own mount namespace."""
+    """Returns the words that run bash in its own mount namespace."""
     return ["unshare", "--mount", "--propagation", "private", "bash", "-euc", script, "bash", *words]
 
 
 def exports(file):
-    """The names that a shared object exports."""
+    """Returns the names that a shared object exports."""
     rows = [line.split() for line in run("readelf", "--dyn-syms", "-W", file).splitlines()]
     return sorted(row[7].partition("@")[0] for row in rows if len(row) > 7 and row[4] == "GLOBAL" and row[6].isdigit())
 
 
 def flags_of(prefix):
-    """The flags by pkg-config for the library in a prefix."""
+    """Returns the flags by pkg-config for the library in a prefix."""
     said = run("pkg-config", "--cflags", "--libs", "proved_argon2", env={"PKG_CONFIG_PATH": prefix / "lib/pkgconfig"})
     return shlex.split(said)
 
 
 def first_lines(page, count=5):
-    """The first lines of a page, this many."""
+    """Returns the first lines of a page, this many."""
     lines = re.search(r"^```\w*\n(.*?)^```", (TOP / "docs" / page).read_text(), re.M | re.S)[1]
     assert lines.count("\n") == count, lines
     return lines
 
 
 def with_crate(*features):
-    """The line of a manifest that names the crate as a dependency."""
+    """Returns the line of a manifest that names the crate as a dependency."""
     return f'argon2 = {{ package = "proved-argon2", path = "{TOP}/bindings/rust", features = {[*features]} }}\n'
 
 
 def project(folder, main, dependencies=with_crate(), file="main.rs", more=""):
-    """A program in Rust, or a library."""
+    """Returns a program in Rust, or a library."""
     (folder / "src").mkdir(parents=True, exist_ok=True)
     (folder / "Cargo.toml").write_text(
         f'[package]\nname = "{folder.name}"\nversion = "0.0.0"\nedition = "2021"\n[workspace]\n'

@@ -46,7 +46,7 @@ def test_the_lines_for_python_run(installed):
         env={"PYTHONPATH": TOP / "bindings/python/src", "LD_LIBRARY_PATH": installed / "lib"})
 
 
-# What follows the code of the page for Python: its coroutines return what the page says.
+# Runs after the code of the page for Python: the page's coroutines return what it says.
 AFTER_THE_PAGE = """
 import asyncio
 
@@ -77,7 +77,7 @@ def test_the_row_of_python_works_where_python_takes_no_packages_outside_of_an_en
     (row,) = re.findall(r"^\| \[Python\].*\| `([^`]*)` \| `[^`]*` \|$", (TOP / "README.md").read_text(), re.M)
     assert "pip install" in row
     (tmp_path / "lines").write_text(first_lines("PYTHON.md"))
-    # (hatchling is Debian's, since there is no network)
+    # hatchling is Debian's, since there is no network.
     run("bash", "-c", f'{row} && python "$HOME/lines"', env={
         "HOME": tmp_path, "PIP_CONFIG_FILE": None, "PIP_NO_BUILD_ISOLATION": "no",
         "PYTHONPATH": "/usr/lib/python3/dist-packages"})
@@ -133,18 +133,18 @@ PAGES = {1: (MAN / "proved-argon2.1.in").read_text(),
 
 
 def plain(roff):
-    """The words of a page, without its marks."""
+    """Returns the words of a page, without its marks."""
     lines = [re.sub(r"^\.(?:[A-Za-z]{1,2}\b ?|\\\".*)", "", line) for line in roff.splitlines()]
     return re.sub(r"\\f[A-Z]|\"", "", "\n".join(lines)).replace("\\-", "-").replace("\\", "")
 
 
 def part(section, title):
-    """A part of a page."""
+    """Returns a part of a page."""
     return re.search(rf'^\.SH "?{title}"?\n(.*?)(?=^\.SH )', PAGES[section], re.M | re.S)[1]
 
 
 def joined(code):
-    """A piece of C without comments, and with blanks only between two words."""
+    """Returns a piece of C without comments, and with blanks only between two words."""
     code = re.sub(r"/\*.*?\*/", "", code, flags=re.S)
     return re.sub(r"\s*([^\w\s])\s*", r"\1", re.sub(r"\s+", " ", code)).strip()
 
@@ -156,13 +156,13 @@ def declared():
 
 
 def prototypes(code):
-    """The functions that a piece of C declares, by their names."""
+    """Returns the functions that a piece of C declares, by their names."""
     found = re.findall(r"(?:^|[;}])((?:const char\*|[a-z]\w* )(proved_argon2_\w+)\([^)]*\))(?=[;{])", joined(code))
     return {name: text for text, name in found}
 
 
 def types(code):
-    """The types that a piece of C defines, by their names."""
+    """Returns the types that a piece of C defines, by their names."""
     found = re.findall(r"typedef (struct \w+\{[^}]*\}(\w+)|int (\w+)\([^;]*\));", joined(code))
     return {one or other: text for text, one, other in found}
 
@@ -212,7 +212,7 @@ def test_each_page_names_the_settings_that_the_library_recommends():
     named = {page: {*re.findall(r"argon2id \d+ \d+ \d+ \d+ \d+ seq", plain((TOP / page).read_text()))} for page in (
         "bindings/shell/help.txt", "bindings/man/proved-argon2.1.in", "bindings/shell/commands.sh", "README.md",
         "docs/SHELL.md")}
-    # (README need not name any, and SHELL.md names others beside them)
+    # README need not name any, and SHELL.md names others beside them.
     assert right in named.pop("docs/SHELL.md") and named.pop("README.md") <= {right}
     assert all(settings == {right} for settings in named.values()), named
 

@@ -38,7 +38,7 @@ def files_in(folder):
 
 @pytest.fixture(scope="module")
 def examples(installed, tmp_path_factory):
-    """The example in C with the shared object, by pkg-config, and with the archive."""
+    """Returns the example in C with the shared object, by pkg-config, and with the archive."""
     folder = tmp_path_factory.mktemp("examples")
     run(CC, "-std=c11", "-Wall", "-Wextra", "-Werror", EXAMPLE, "-o", folder / "shared", *flags_of(installed))
     run(CC, "-std=c11", EXAMPLE, "-I", installed / "include", installed / "lib/libproved_argon2.a", "-o",
@@ -170,7 +170,7 @@ def of_arm(archive):
     (lambda archive: archive, "there is no nocompiler", "nocompiler"),
 ])
 def test_an_error_names_the_file_that_cannot_be_linked(built, tmp_path, change, why, compiler):
-    """Among the proved files, one is replaced."""
+    """One of the proved files is replaced."""
     for build in BUILDS:
         shutil.copytree(built / build, tmp_path / build)
     archive = tmp_path / PROVED[-1] / "libargon2_c.a"

@@ -114,7 +114,7 @@ def test_crate_passes_its_tests(cargo, tmp_path):
 
 @needs('cargo')
 def test_crate_clears_what_it_keeps(cargo, tmp_path):
-    """(between calls, by one thread and by several: the program succeeds if all its checks do)"""
+    """It does so between calls, by one thread and by several. The program succeeds if all its checks do."""
     program = (BINDINGS / 'rust/tests/programs/memory.rs').read_text(encoding='utf-8')
     folder = project(tmp_path / 'keeping', program, with_crate('password-hash'))
     with_std(cargo, folder, tmp_path,
@@ -123,7 +123,7 @@ def test_crate_clears_what_it_keeps(cargo, tmp_path):
 
 @needs('cargo')
 def test_crate_finds_its_archive(tmp_path):
-    """(as ./package puts it there, for a target with musl, and for ARM64)"""
+    """The archive is where ./package puts it, for a target with musl, and for ARM64."""
     build, of = tmp_path / 'build', dict(
         CARGO_MANIFEST_DIR=str(tmp_path), CARGO_CFG_TARGET_OS='linux', CARGO_CFG_TARGET_ENV='musl',
         CARGO_CFG_TARGET_POINTER_WIDTH='64', CARGO_CFG_TARGET_ENDIAN='little')

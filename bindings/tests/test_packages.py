@@ -85,7 +85,7 @@ git add --all; git add --force release; git commit -qm 'release: begin'; git tag
 
 @pytest.fixture(scope='session')
 def keys(tmp_path_factory):
-    """The environment with an empty folder for keys."""
+    """Yields the environment with an empty folder for keys."""
     folder = tmp_path_factory.mktemp('keys')
     folder.chmod(0o700)
     yield {'GNUPGHOME': folder}
@@ -94,7 +94,7 @@ def keys(tmp_path_factory):
 
 @pytest.fixture(scope='session')
 def tagged(keys, tmp_path_factory):
-    """A repository of these sources whose commit has the signed tag."""
+    """Returns a repository of these sources whose commit has the signed tag."""
     folder = copy_tree(tmp_path_factory.mktemp('tagged') / 'tree')
     run('bash', '-euc', TAGGED, folder, env=keys)
     return folder
@@ -113,7 +113,7 @@ def packages(tagged, keys, tmp_path_factory):
 
 @pytest.fixture(scope='session')
 def unpacked(packages, tmp_path_factory):
-    """A folder with the contents of each package, by the package's name."""
+    """Returns a folder with the contents of each package, by the package's name."""
     folder = tmp_path_factory.mktemp('unpacked')
     for name in NAMES:
         (folder / name).mkdir()
@@ -125,7 +125,7 @@ def unpacked(packages, tmp_path_factory):
 
 @pytest.fixture
 def there():
-    """A folder that other users can reach, unlike pytest's."""
+    """Yields a folder that other users can reach, unlike pytest's."""
     with tempfile.TemporaryDirectory() as folder:
         yield Path(folder)
 
@@ -151,7 +151,7 @@ def test_packages_made_elsewhere_by_another_user_have_the_same_bytes(tagged, pac
     assert read(home / 'made/SHA256SUMS') == read(packages / 'SHA256SUMS')
 
 
-# What is done to the repository of a release, and why `./package --release` then makes nothing.
+# Each of these changes to the repository of a release is a reason why `./package --release` makes nothing.
 UNRELEASED = {
     'another commit': ('git commit -q --allow-empty -m more', f'the tag v{VERSION} does not name this commit'),
     'no signature': (f'git tag -f -a -m more v{VERSION}', f'the tag v{VERSION} has no signature'),
@@ -205,7 +205,7 @@ def test_a_version_that_is_no_release_names_its_commit(clone):
     assert all('unknown' in version or '-000000000000' in version for version in versions_in(clone).values())
 
 
-# How each kind's packages name their version, beside the file's name.
+# Each kind's packages name their version here, beside the file's name.
 NAMED = {'wheel': 'unzip -p *x86_64.whl "*/METADATA"',
          'sdist': 'tar -xOf proved_*.tar.gz --wildcards "*/PKG-INFO"',
          'crate': 'tar -xOf *.crate --wildcards "*/Cargo.toml"', 'debian': 'dpkg-deb -f libproved-argon2-1_*.deb',
@@ -374,7 +374,7 @@ def linked_by(compiler, folder):
     names = {None: {'entry'}.union(*map(symbols, folder.glob(f'{compiler}-*')))}
     for owner, files in SOURCES_OF_CODE.items():
         paths = [Path(run(compiler, f'-print-file-name={file}').strip()) for file in files.split()]
-        # (of a library, names that are not exported may also be ours)
+        # Names that a library does not export may also be ours.
         names[owner] = {name for path in paths if path.is_absolute()
                         for name in symbols(path, *['-g'] * (path.name == 'libc.a'))} - names[None]
     return names
@@ -489,7 +489,7 @@ FROM = {
 
 @pytest.fixture(scope='session')
 def with_pages(packages, tmp_path_factory):
-    """The packages, with what their tests read and, for the way back, Debian's own libargon2."""
+    """Returns the packages, with what their tests read and, for the way back, Debian's own libargon2."""
     folder = shutil.copytree(packages, tmp_path_factory.mktemp('pages') / 'packages')
     for name in ('docs', 'debian', 'bindings/c/tests'):
         shutil.copytree(TOP / name, folder / name)
@@ -547,7 +547,7 @@ sed -i s/bookworm/trixie/ /etc/apt/sources.list; apt-get update -qq; apt-get ful
 grep -qx VERSION_CODENAME=trixie /etc/os-release; swaps php-cli proved-libargon2-1 libargon2-dev
 [[ $(dpkg-query -W -f '${Version}' libargon2-dev) != "$former" ]]; swaps libargon2-1 libargon2-1 libargon2-dev'''
 INSTALLS = '/tree/install; proved-argon2 --version; /tree/install --remove'
-# What is done in a system, by its release.
+# The steps in each system, by its release.
 FRESH = {'bookworm': [INSTALLS, SWAPS, THERE_AND_BACK, UPGRADE, INSTALLS, THERE_AND_BACK],
          'noble': [INSTALLS, SWAPS, THERE_AND_BACK]}
 
@@ -555,7 +555,7 @@ FRESH = {'bookworm': [INSTALLS, SWAPS, THERE_AND_BACK, UPGRADE, INSTALLS, THERE_
 @needs('mmdebstrap')
 @pytest.mark.parametrize('release', FRESH)
 def test_a_fresh_system(packages, tmp_path, release):
-    """(Ubuntu's mirror, beside Debian's, is trusted, since Debian lacks its keys.)"""
+    """Ubuntu's mirror, beside Debian's, is trusted, since Debian lacks its keys."""
     system, of, sources = tmp_path / 'system', *(
         ('ubuntu', 'deb [trusted=yes] {} noble main') if release == 'noble' else ('debian', '{}'))
     mirror = run('bash', '-c', f'. bindings/tests/fetching.bash; mirror_of {of}').strip()

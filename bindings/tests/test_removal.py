@@ -22,7 +22,7 @@ PYTHONPATH=bindings/python/src PROVED_ARGON2_LIBRARY=$2.1 python3 -B -c "import 
 
 @pytest.fixture
 def folder():
-    """A folder that everybody may read."""
+    """Yields a folder that everybody may read."""
     made = pathlib.Path(tempfile.mkdtemp())
     made.chmod(0o755)
     yield made

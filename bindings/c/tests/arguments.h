@@ -36,7 +36,7 @@ static proved_argon2_block blocks[4 * SLICE + 1];
 static uint8_t inputs[16];
 static char text[TEXT];
 
-/* What fits: the job of `small`, its blocks, its tag and its text. */
+/* These arguments fit: the job of `small`, its blocks, its tag and its text. */
 static struct known {
     proved_argon2_job job;
     proved_argon2_block blocks[4 * SLICE + 1];
@@ -44,7 +44,7 @@ static struct known {
     char text[TEXT];
 } known;
 
-/* What the calls write to, each with more bytes than they may write. */
+/* The calls write here. Each place has more bytes than they may write. */
 static struct written {
     void *memory;
     size_t memory_len;
@@ -116,7 +116,7 @@ static inline void give_to_read(void)
     give(TAG_READ, "tag", known.tag, TAG);
 }
 
-/* What is written to is filled with bytes first. */
+/* Fills the places that calls write to with bytes. */
 static inline void give_to_write(void)
 {
     fill_bytes((uint8_t *)&written, sizeof written, 7);

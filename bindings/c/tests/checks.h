@@ -39,7 +39,7 @@ __attribute__((destructor)) static void end_unfinished(void)
     }
 }
 
-/* Whether a code is the expected number; otherwise prints it. */
+/* Checks that a code is the expected number, and prints it otherwise. */
 static inline void check_code(uint32_t code, uint32_t expected, const char *name)
 {
     if (code != expected) {

@@ -289,7 +289,7 @@ static void check_buffers(void)
     proved_argon2_buffers_free(kept);
     look_at = NULL;
     look_everywhere();
-    /* (an emulator does not show what is left in pages that the call returns to the system) */
+    /* An emulator does not show what is left in pages that the call returns to the system. */
     is_right = (no_wiping || is_nothing_found("buffers_free")) && held < before && is_right;
     check(is_right, "buffers_free clears the buffers");
     is_right = proved_argon2_buffers_new(&calls[MAPPED].settings, 1, &kept) == PROVED_ARGON2_OK;
@@ -335,7 +335,7 @@ static void check_signals(size_t name)
 
 /* ---- a name that is bound late behind a call */
 
-/* (nothing else here calls getpgrp) */
+/* Nothing else here calls getpgrp. */
 static void calls_late(void)
 {
     (void)!getpgrp();

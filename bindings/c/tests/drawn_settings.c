@@ -31,7 +31,7 @@ enum {
 #define LARGE ((uint32_t)2 << 20)
 #define MOST_LARGE ((uint32_t)32 << 20)
 
-/* Where the library counts the blocks that it writes. */
+/* The library counts here the blocks that it writes. */
 #define COUNTER 0x10000000
 
 static atomic_size_t *written;
@@ -84,7 +84,7 @@ static size_t blocks_of(const proved_argon2_settings *of)
     return all * of->time_cost - 2 * of->lanes + drawing * slices * of->lanes;
 }
 
-/* How a call is made: each of the four with threads; the first without options; and twice in a buffer of memory_new. */
+/* The four calls with threads; the first without options; and the same twice in a buffer of memory_new. */
 enum way { RAW, ENCODED, VERIFY, VERIFY_ENCODED, PLAIN, REUSED };
 
 /* Returns how many threads it uses, up to `most`: only the caller's if more are slower. */
@@ -164,7 +164,7 @@ static bool is_as_counted(const struct call *call, enum way way, uint32_t thread
     return good;
 }
 
-/* How many bytes of the longest tag are left in its memory when that is freed. */
+/* This many bytes of the longest tag are left in its memory when that is freed. */
 static size_t left;
 
 static void look_at_room(const void *block)

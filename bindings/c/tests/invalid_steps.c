@@ -126,7 +126,7 @@ static void check_over(void)
         good &= answers_over(job_hash_over, has_blocks, has_length, ITS(out, TAG));
         good &= answers_over(hash_over, has_blocks, has_length, ITS(out, TAG));
         good &= answers_over(job_verify_over, has_blocks, has_length && has_hash, ITS(tag, TAG));
-        /* (verify_over takes a hash of any length, and then computes another tag) */
+        /* verify_over takes a hash of any length, and then computes another tag. */
         good &= !has_hash || answers_over(verify_over, has_blocks, has_length, ITS(tag, TAG));
     }
     check(good, "hash_over, verify_over and those of a job with lengths");

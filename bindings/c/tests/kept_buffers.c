@@ -36,7 +36,7 @@ static bool take(const proved_argon2_settings *settings)
     return peer(&call, expected);
 }
 
-/* Whether a hash is right, and made so many requests for memory. */
+/* Returns whether a hash is right, and made this many requests for memory. */
 static bool hashes(const proved_argon2_options *options, size_t count)
 {
     uint8_t tag[TAG];
@@ -48,7 +48,7 @@ static bool hashes(const proved_argon2_options *options, size_t count)
     return is_right && requests == count;
 }
 
-/* How many buffers the handle has. */
+/* Returns how many buffers the handle has. */
 static size_t kept(void)
 {
     return (held + BESIDE) / BUFFER;
@@ -142,7 +142,7 @@ static void check_most(void)
     with.progress = nest;
     with.arg = &levels;
     is_nested_right = true;
-    /* (each of the calls also allocates its workers; two make buffers, and two allocate blocks) */
+    /* Each of the calls also allocates its workers; two make buffers, and two allocate blocks. */
     good = hashes(&with, 8) && is_nested_right && good;
     check(good && kept() == 2, "if all buffers are in use, calls allocate their own memory");
     check(hashes(&with, 6) && is_nested_right && kept() == 2, "and later ones use what was given back");
@@ -326,7 +326,7 @@ static uint64_t sum_of(const void *memory)
     return sum;
 }
 
-/* Whether a child leaves the buffer as it is that its parent's other thread uses, and has as many others as it may. */
+/* Returns whether a child leaves the buffer that its parent's other thread uses, and has as many others as it may. */
 static bool child_is_right(const void *used, size_t others)
 {
     const uint64_t before = sum_of(used);

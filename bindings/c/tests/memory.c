@@ -7,7 +7,7 @@
 
 enum { TAG = 32, SMALL = 256, LARGE = 3072, HUGE_PAGE = 2 << 20, LONG_REST = 768 << 10 };
 
-/* What a call may write to, which an error leaves unchanged. */
+/* A call may write to this buffer. An error leaves it unchanged. */
 static uint8_t buffer[256], before[256];
 
 /* The call, with 4 lanes and some memory cost; its tag, encoded hash and job. */
@@ -107,7 +107,7 @@ static void check_call(const struct row *row, uint32_t threads)
     do {
         good = ends_well(row, number, needed);
     } while (good && requests >= number++ && number < 100);
-    /* (a mapping is cut out of one that has a huge page more) */
+    /* A mapping is cut out of one that has a huge page more. */
     const size_t most = blocks + 2048 + (blocks < HUGE_PAGE ? 0 : HUGE_PAGE);
     snprintf(name, sizeof name, "%s of %u KiB by %u threads makes %zu requests, each of which may be refused",
         row->name, (unsigned)call.settings.mem_cost, (unsigned)threads, expected);

@@ -97,7 +97,7 @@ static uint32_t buffers_new(void)
     return code;
 }
 
-/* These settings have too little memory for passwords, so nothing is measured. */
+/* The settings have too little memory for passwords, so nothing is measured. */
 static uint32_t tune(void)
 {
     const uint32_t code = proved_argon2_tune(arguments[OPTIONS].at, arguments[MOST].at, 0, arguments[TUNING].at);
@@ -155,7 +155,7 @@ static bool tells_what_fits(const struct row *row)
     give_what_fits();
     spoil();
     const uint32_t spoilt = row->call();
-    /* (the encoded hash has associated data, which these three calls cannot pass: they never match) */
+    /* The encoded hash has associated data, which these three calls cannot pass: they never match. */
     const bool is_other = row->call == password_verify || row->call == password_verify_with
         || row->call == password_verify_unknown;
     const bool is_done = whole == (is_other ? PROVED_ARGON2_MISMATCH : PROVED_ARGON2_OK);

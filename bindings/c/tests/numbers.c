@@ -73,7 +73,7 @@ static void check_errors(void)
     for (uint32_t number = 0; number < 1000; number++)
         known += proved_argon2_message(number) != unknown;
     check(strcmp(proved_argon2_message(PROVED_ARGON2_OK), "No error") == 0, "the message of success says so");
-    /* (Success has a message of its own, and the unknown number has the one that is not counted.) */
+    /* Success has a message of its own, and the unknown number has the one that is not counted. */
     check(known == sizeof known_errors / sizeof *known_errors, "the library has no other error");
 }
 

@@ -58,9 +58,9 @@ LEAKS = {
     'branch_on_a_hash': dict.fromkeys(('proved_argon2_job_verify', 'proved_argon2_job_verify_over'),
                                       'cmpb $0, (%rcx); je original'),
 }
-# What a machine's tools begin with, its jump, and how many bytes that has.
+# For each machine: the prefix of its tools' names, its jump, and how many bytes the jump has.
 X86, ARM64 = ('', 'jmp', 5), ('aarch64-linux-gnu-', 'b', 4)
-# What may be moved from the front of a function: it does not depend on its address.
+# These instructions may be moved from the front of a function, since they do not depend on their address.
 MOVABLE = re.compile(r'(push|sub|mov|vmovdqu32|xor|movabs|cmp|test|st[pr]|ldp)[bwlq]?\b(?!.*%rip)')
 # The section of a function, whose front jumps to the planted code behind it, where the old front is too.
 BEHIND = """
@@ -81,14 +81,14 @@ def run(*command, **how):
 
 
 def objects(archive, folder, prefix=''):
-    """The objects of an archive, by their names."""
+    """Returns the objects of an archive, by their names."""
     folder.mkdir()
     run(f'{prefix}ar', 'x', archive.resolve(), cwd=folder)
     return {file.name: file for file in folder.iterdir()}
 
 
 def library(folder, cpu=''):
-    """The objects of the library, or of a library that has only the build for a processor."""
+    """Returns the objects of the library, or of a library that has only the build for a processor."""
     built = Path(run(TOP / 'build/prepare', 'x86_64').strip())
     if cpu:
         run(TOP / 'build/link', 'x86_64', built, folder.with_suffix('.built'), env={**os.environ, 'BUILDS': cpu})
@@ -113,7 +113,7 @@ def front(path, section, prefix, least):
 
 
 def with_code(own, prefix, **parts):
-    """The contents of a section with code."""
+    """Returns the contents of a section with code."""
     with tempfile.TemporaryDirectory() as folder:
         before, source, made, flat = (Path(folder, name) for name in ('own', 'code.s', 'made.o', 'flat'))
         before.write_bytes(own)
@@ -137,7 +137,7 @@ def plant(path, function, code, to):
 
 
 def places(path, function):
-    """A function, and for the compression also AHEAD if that refers to no other."""
+    """Returns a function, and for the compression also AHEAD if that refers to no other."""
     is_alone = function == COMPRESSION and f' .rela.text.{AHEAD} ' not in run('readelf', '-SW', path)
     return [function, AHEAD] if is_alone else [function]
 

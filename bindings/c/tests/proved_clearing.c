@@ -102,7 +102,7 @@ static uint32_t does_job_verify_over(void)
     return code ? code : proved_argon2_job_verify_over(&job, blocks, 2048, zeros, TAG, out, TAG);
 }
 
-/* What is overwritten after its last use. First blocks stay in memory after job_begin, and are overwritten later. */
+/* These are overwritten after their last use; the first blocks, which stay in memory after job_begin, later. */
 enum { SEEDS = 1 << OF_SEED | 1 << OF_LAST, BUFFERS = SEEDS | 1 << OF_FIRST };
 
 /* clang-format off */
@@ -110,7 +110,7 @@ enum { SEEDS = 1 << OF_SEED | 1 << OF_LAST, BUFFERS = SEEDS | 1 << OF_FIRST };
 #define OTHER(name, leaves) {#name, does_##name, 0, leaves, 0, false}
 /* clang-format on */
 
-/* What each call leaves of what it computes or reads, or KINDS for nothing. */
+/* The one kind of what it computes or reads that each call leaves, or KINDS for none. */
 static const struct row {
     const char *name;
     uint32_t (*does)(void);
@@ -172,8 +172,8 @@ static void clear_caller_memory(void)
     __real_explicit_bzero(hash, sizeof hash);
 }
 
-/* What is found after a call: what it leaves, what it should overwrite, and secrets outside the caller's memory. Freed
- * memory may contain none of it. */
+/* A search after a call may find what it leaves, what it should overwrite, and secrets outside the caller's memory.
+ * Freed memory may contain none of it. */
 enum { LEAVES = 1, OVERWRITES = 2, ELSEWHERE = 4, NO_ANSWER = 8 };
 
 static int what_is_left(const void *arg)

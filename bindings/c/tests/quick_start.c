@@ -11,7 +11,7 @@ static bool make_hash(const char *password, char stored[PROVED_ARGON2_TEXT_SIZE]
     return proved_argon2_password_hash(stored, password, strlen(password)) == PROVED_ARGON2_OK;
 }
 
-/* Whether to let a user in who typed this password. */
+/* Returns whether to let a user in who typed this password. */
 static bool is_right(const char *password, const char *stored)
 {
     return proved_argon2_password_verify(stored, password, strlen(password)) == PROVED_ARGON2_OK;
@@ -33,7 +33,7 @@ static bool are_right_bytes(const uint8_t *pwd, size_t pwd_len, const char *text
     return code == PROVED_ARGON2_OK;
 }
 
-/* What all threads of a service share. */
+/* All threads of a service share this. */
 struct service {
     proved_argon2_settings new_settings;
     proved_argon2_limits limits;

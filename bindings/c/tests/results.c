@@ -30,7 +30,7 @@ AT(proved_argon2_job, lanes, 72, 4);
 AT(proved_argon2_job, segment_length, 76, 4);
 AT(proved_argon2_job, passes, 80, 4);
 AT(proved_argon2_job, hash_length, 84, 4);
-/* (none of these moves; new options come behind them) */
+/* None of these moves; new options come behind them. */
 AT(proved_argon2_options, size, 0, 8);
 AT(proved_argon2_options, threads, 8, 4);
 AT(proved_argon2_options, memory, 16, 8);

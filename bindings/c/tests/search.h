@@ -97,7 +97,7 @@ static inline bool take_step(const proved_argon2_job *job, proved_argon2_block *
     return good;
 }
 
-/* What the first two blocks of the last lane are hashed from: H0, and behind it the column and the lane. */
+/* The first two blocks of the last lane are hashed from H0, and behind it the column and the lane. */
 static inline void keep_seeds(const proved_argon2_job *job, known *to)
 {
     for (uint8_t column = 0; column < 2; column++) {
@@ -230,7 +230,7 @@ static inline void look_everywhere(void)
     }
 }
 
-/* What a program calls after a call, if anything. If its name is bound late, the loader saves the registers. */
+/* A program calls this after a call, if it is set. If its name is bound late, the loader saves the registers. */
 static void (*calls_behind)(void);
 
 /* The contents, after a call, of other registers that it may change. */

@@ -153,7 +153,7 @@ static bool serves_all_who_wait(void)
     return pthread_barrier_init(&begin, NULL, AT_ONCE) == 0 && run(log_in_at_once, AT_ONCE) && seen[BUSY] == busy;
 }
 
-/* (getrusage counts the memory of the process that began this one) */
+/* getrusage counts the memory of the process that began this one. */
 static long peak_kib(void)
 {
     long kib = 0;

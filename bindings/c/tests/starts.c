@@ -182,7 +182,7 @@ static void check_cancelling(int type, const char *name)
     check(good, name);
 }
 
-/* Whether a thread that cannot be cancelled stays so. */
+/* Checks that a thread that cannot be cancelled stays so. */
 static void check_state(void)
 {
     const proved_argon2_options with = by(4);

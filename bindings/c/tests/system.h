@@ -47,11 +47,11 @@ static atomic_size_t bursts;       /* how often a thread was started while none 
 /* Threads that were started while some signal was not blocked, and starts that requested a stack that is not small. */
 static atomic_size_t open_to_signals, large_stacks;
 
-/* Whether each wait is interrupted once, and how many were. */
+/* If the first is set, each wait is interrupted once. The second counts these. */
 static bool interrupts_waits;
 static atomic_size_t interruptions;
 
-/* Which starts are refused, counted from 1; 0 for none. */
+/* The starts from the first to the last are refused. They are counted from 1; 0 means none. */
 static size_t first_refused, last_refused;
 
 /* Requests for memory and for mappings, and which one of them is refused, counted from 1. */
@@ -61,17 +61,17 @@ static size_t refused_request;
 /* Requests to allocate pages before they are touched, and the bytes for which huge pages were requested. */
 static atomic_size_t populatings, in_huge_pages;
 
-/* Whether the system denies to unmap memory. */
+/* If this is set, the system denies to unmap memory. */
 static bool refuses_to_unmap;
 
-/* How many bytes are held, and were at most. */
+/* The bytes that are held now, and that were at most. */
 static atomic_size_t held, most_held;
 
 /* The last mapping that was given. */
 static void *last_mapped;
 static size_t last_mapped_len;
 
-/* Whether clearing is turned off, and what looks at bytes before they are freed. */
+/* The first turns clearing off. The second looks at bytes before they are freed. */
 static bool no_wiping;
 static void (*look_at)(const void *block);
 
@@ -166,7 +166,7 @@ int __wrap_pthread_join(pthread_t thread, void **result)
     return __real_pthread_join(thread, result);
 }
 
-/* (as if a signal handler had run) */
+/* This is as if a signal handler had run. */
 int __wrap_sem_wait(sem_t *semaphore)
 {
     static _Thread_local bool was_interrupted;

@@ -40,7 +40,7 @@ int main()
         && proved_argon2_encoded_len(&settings, 16) == 96 && settings.mem_cost == 7168 ? 0 : 1;
 }
 """
-# What the driver needs from the system. The proved code uses no heap, and no secret passes through a function of the
+# The driver needs these from the system. The proved code uses no heap, and no secret passes through a function of the
 # system that copies.
 OF_SYSTEM = set("""_GLOBAL_OFFSET_TABLE_ __errno_location __stack_chk_fail aligned_alloc calloc clock_gettime
     explicit_bzero free getpid getrandom madvise malloc mmap munmap pthread_attr_destroy pthread_attr_init
@@ -96,7 +96,8 @@ def test_links_from_cpp(compiler, tmp_path):
 
 @cache
 def calls(of=r'(?:PROVED_ARGON2_CHECKED (?:static inline )?uint\d+_t|\bvoid)'):
-    """The calls of the headers whose result is to be looked at, and those that free, with what each is given."""
+    """Returns the calls of the headers whose result is to be looked at, and those that free, with what each is
+    given."""
     text = ' '.join(line for line in HEADERS.splitlines() if not line.startswith('#'))
     found = re.findall(rf'{of} proved_argon2_(\w+)\(([^()]*)\)', text)
     assert len(found) == 41
@@ -121,7 +122,7 @@ def test_an_ignored_result_is_a_warning(compiler, call, tmp_path):
 
 
 def test_declares_each_number_as_checked():
-    """Except those whose result need not be checked."""
+    """The result of a few calls need not be checked."""
     lines = HEADERS.splitlines()
     unchecked = [line for before, line in zip(lines, lines[1:])
                  if re.match(r'(static inline )?uint(32|64)_t proved_argon2_', line)
@@ -145,9 +146,8 @@ def test_each_pointer_is_null_once():
 
 
 def test_looks_at_what_each_call_leaves():
-    """Except for the password calls with options, which the calls without options call, and for tune, which hashes no
-    password.
-    """
+    """It leaves out the password calls with options, which the calls without options call, and tune, which hashes no
+    password."""
     expected = {'message', *(call for call in calls() if not re.fullmatch('password_.*_with|tune', call))}
     assert {name.split()[0] for program in ('clearing', 'proved_clearing') for name in checks_of(program)
             if re.match(r'\w+ (leaves|clears) ', name)} == expected
@@ -247,7 +247,7 @@ def test_takes_the_build_for(cpu, build):
 @needs_qemu
 @pytest.mark.parametrize('feature', sorted({*OF_V2, *OF_V3} - {'AVX'}))
 def test_an_unchecked_feature_is_detected(feature, objects):
-    """(What has AVX2 has AVX.)"""
+    """A processor with AVX2 also has AVX."""
     asked = rf'(?<=[{{ ]){feature}(, |(?=}}))| && \(\S+ / 32\] & {feature}\) != 0'
     program, cpu = planted(objects, asked, ''), 'Haswell'
     if feature in OF_V2:
@@ -258,7 +258,7 @@ def test_an_unchecked_feature_is_detected(feature, objects):
 
 @needs_qemu
 def test_takes_an_older_build_without_wide_registers(objects):
-    """(the system saves only their lower halves)"""
+    """The system saves only the lower halves of the registers."""
     assert build_by('Haswell', planted(objects, re.escape(SAVED[:-2]) + '.*', 'saved = 3;')) == '2 of 3'
 
 

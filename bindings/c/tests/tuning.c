@@ -112,7 +112,7 @@ static const struct row {
 
 enum { ROWS = sizeof rows / sizeof *rows };
 
-/* Whether the search finds what a row says, and how long a hash takes. */
+/* Returns whether the search finds the settings of a row, and how long a hash takes. */
 static bool is_found(const struct row *row)
 {
     proved_argon2_tuning found;
@@ -168,7 +168,7 @@ static void check_far(void)
     begin(1);
     const uint64_t began = own.now;
     uint32_t code = tune(30, 2097152, &found);
-    /* (from 2 GiB to 64 MiB, a quarter of a pass at a time; below that a hash takes less than four times as long) */
+    /* From 2 GiB to 64 MiB, it goes a quarter of a pass at a time. Below, a hash takes less than four times as long. */
     uint64_t longest = 0;
     for (uint32_t memory = 2097152; memory >= 7168; memory /= 2) {
         const uint64_t slice = 3 * MILLISECOND * memory / 1024 / 4;

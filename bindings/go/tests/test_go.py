@@ -17,7 +17,7 @@ PAGE = (TOP / "docs/GO.md").read_text()
 SOURCES = "/usr/share/gocode/src/golang.org/x"
 ARCH = {"x86_64": "amd64", "aarch64": "arm64"}[MACHINE]
 LINKED = "-ldflags", "-linkmode external -extldflags -static"
-# What x/crypto's tests call beside its public functions.
+# x/crypto's tests call these functions beside its public ones.
 OF_X_CRYPTO = """package argon2
 
 const (
@@ -104,14 +104,14 @@ pytestmark = [needs("go"), pytest.mark.timeout(2400)]
 
 @pytest.fixture(scope="session")
 def env(tmp_path_factory):
-    """The variables with which Go builds here, without a network."""
+    """Returns the variables with which Go builds here, without a network."""
     folder = tmp_path_factory.mktemp("go")
     return {"GOCACHE": folder / "cache", "GOPATH": folder / "path", "GOFLAGS": "-mod=mod", "GOPROXY": "off",
             "GOSUMDB": "off", "GOTOOLCHAIN": "local", "CGO_ENABLED": 1}
 
 
 def copy_module(folder, archive=None):
-    """The module with the archives and the headers, beside the tables that its tests read."""
+    """Returns the module with the archives and the headers, beside the tables that its tests read."""
     module = shutil.copytree(MODULE, folder / "bindings/go", ignore=shutil.ignore_patterns("*.a", "proved_argon2*.h"))
     for name in ("tests", "vectors"):
         (folder / "bindings" / name).symlink_to(TOP / "bindings" / name)
@@ -132,7 +132,7 @@ def module(tmp_path_factory):
 
 
 def program(folder, module, *files, more=""):
-    """A module that requires ours."""
+    """Returns a module that requires ours."""
     folder.mkdir(exist_ok=True)
     for file in files:
         shutil.copy(file, folder)
@@ -154,7 +154,7 @@ def test_the_sources_are_laid_out_and_each_exported_name_has_a_comment(module, e
 
 
 def test_cgo_and_unsafe_code_are_only_in_one_file():
-    """(calls_go124.go has no code: it tells newer cgo how calls in calls.go behave)"""
+    """calls_go124.go has no code: it tells newer cgo how calls in calls.go behave."""
     files = [file for file in MODULE.glob("*.go") if re.search('"(C|unsafe)"', file.read_text())]
     assert {file.name for file in files} == {"calls.go", "calls_go124.go"}
     assert not re.search("^(?!//|package|import|$)", (MODULE / "calls_go124.go").read_text(), re.M)
@@ -176,7 +176,7 @@ def test_a_program_links_the_library_without_kernels(env, tmp_path):
 
 @pytest.mark.parametrize("build", ["x86-64-v2", "none"])
 def test_the_build_is_chosen_for_the_processor(module, env, build):
-    """Without a build, calls return an error, which the example prints."""
+    """Calls return an error if there is no build, and the example prints it."""
     done = start("go", "test", "-count=1", "-run", "^Example$", cwd=module, env={**env, "PROVED_ARGON2_CPU": build})
     assert (done.returncode == 0) == (build != "none") and ("is too old" in done.stdout) == (build == "none"), done
 
@@ -209,7 +209,7 @@ VALUES = {"tag": "xxxxx", "text": 12 * "x", "true": "true", "false": "false"}
 
 @pytest.fixture(scope="session")
 def ask(env, tmp_path_factory):
-    """A function that makes calls, and returns what each returned and what the library saw."""
+    """Returns a function that makes calls, and returns what each returned and what the library saw."""
     folder = tmp_path_factory.mktemp("codes")
     run(CC, "-O1", "-I", TOP / "bindings/c/include", "-c", TOP / "bindings/tests/codes.c", "-o", folder / "codes.o")
     run("ar", "rcs", folder / "codes.a", folder / "codes.o")
@@ -283,7 +283,7 @@ needs_x_crypto = pytest.mark.skipif(not os.path.exists(f"{SOURCES}/crypto"), rea
 
 @needs_x_crypto
 def test_the_tests_of_x_crypto_pass(env, tmp_path):
-    """Those of Debian's package, unchanged."""
+    """They are those of Debian's package, unchanged."""
     module = copy_module(tmp_path)
     for file in module.glob("*_test.go"):
         file.unlink()
@@ -311,7 +311,7 @@ def test_a_service_serves_more_logins_than_it_computes(module, env, tmp_path, wo
 
 
 def test_no_copy_of_a_password_or_a_pepper_is_left(module, env, tmp_path):
-    """(searches for its second half, since C's heap overwrites the first bytes of freed memory)"""
+    """We search for its second half, since C's heap overwrites the first bytes of freed memory."""
     folder = program(tmp_path / "secretive", module)
     (folder / "main.go").write_text(SECRETIVE)
     run("go", "build", "-o", tmp_path / "program", cwd=folder, env=env)
@@ -356,7 +356,7 @@ def test_the_tests_pass_with_musl_in_a_static_program(module, env, drawn, tmp_pa
 
 @needs("aarch64-linux-gnu-gcc", "qemu-aarch64-static")
 def test_the_tests_pass_on_arm64(module, env, drawn, tmp_path):
-    """Except those that measure, since qemu itself takes time and memory."""
+    """Those that measure are left out, since qemu itself takes time and memory."""
     run("go", "test", "-c", *LINKED, "-o", tmp_path / "tests", cwd=module,
         env={**env, "CC": "aarch64-linux-gnu-gcc", "GOARCH": "arm64"})
     chosen = "HashesEqual|EncodedHashes|Example$|IDKey|Peppers|EveryError|CallersCompute"
@@ -382,7 +382,7 @@ func main() {{
     fmt.Printf("%x", argon2.IDKey([]byte("password"), []byte("somesalt"), 2, 256, 1, 32))
 }}
 """
-# (bindings/vectors/texts.txt has this tag in base64)
+# bindings/vectors/texts.txt has this tag in base64.
 TAG = "9dfeb910e80bad0311fee20f9c0e2b12c17987b4cac90c2ef54d5b3021c68bfe"
 IN_SYSTEM = """mount --rbind /dev "$1/dev" && mount -t proc proc "$1/proc"
 exec chroot "$1" env -i HOME=/root PATH=/usr/sbin:/usr/bin:/sbin:/bin bash -ec "$2"

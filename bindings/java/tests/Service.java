@@ -26,7 +26,7 @@ final class Service {
     private static final int LEAVING = 100;
     private static final String STOPPED = "error: The hash was stopped: somebody";
     private static final long NANOS = 3_000_000_000L;
-    /** What two hashes need, the stacks of all threads, and what Java keeps. */
+    /** The memory of two hashes, the stacks of all threads, and what Java keeps. */
     private static final long MOST_KIB = 2 * 19456 + 256 * 1024;
     private static final LogIn LOG_IN = new LogIn();
     private static final String OLDER = new PasswordHasher(Settings.owasp2().withMemory(4096))

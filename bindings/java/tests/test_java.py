@@ -86,7 +86,7 @@ exec chroot "$system" env -C "$PWD" "${@:2}"
 
 @pytest.fixture(scope="module")
 def jar(tmp_path_factory):
-    """The jar, with only this machine's library. (`pack` fails if a compiler warns.)"""
+    """Returns the jar, with only this machine's library. (`pack` fails if a compiler warns.)"""
     file = tmp_path_factory.mktemp("jar") / "proved-argon2.jar"
     run(JAVA / "pack", file, built() / MACHINE, env=DATED)
     return file
@@ -94,7 +94,7 @@ def jar(tmp_path_factory):
 
 @pytest.fixture(scope="module")
 def classes(jar):
-    """The classes of the tests, which each Java runs."""
+    """Returns the classes of the tests, which each Java runs."""
     folder = jar.parent / "classes"
     run("javac", "--release", "17", *LINT, "-cp", path_of(jar), "-d", folder, *JAVA.rglob("tests/proved/**/*.java"))
     return folder
@@ -105,7 +105,8 @@ def path_of(*files):
 
 
 def words_of(jar, classes, drawn, *words):
-    """The command of JUnit. (With this much memory the collector copies no password while tests search for copies.)"""
+    """Returns the command of JUnit. (With this much memory the collector copies no password while tests search for
+    copies.)"""
     temporary = jar.parent / "temporary"
     temporary.mkdir(exist_ok=True)
     values = {"vectors": TOP / "bindings/vectors", "random": drawn["RANDOM_HASHES"], "java.io.tmpdir": temporary}
@@ -149,7 +150,7 @@ def test_its_own_tests_pass_in_newer_java(jar, classes, drawn, system, version):
 
 @needs("aarch64-linux-gnu-gcc", "qemu-aarch64-static")
 def test_its_own_tests_pass_on_arm64(classes, drawn, tmp_path):
-    """Except for one that asks for 2 TiB: qemu would need memory for each page."""
+    """One that asks for 2 TiB is left out, since qemu would need memory for each page."""
     jar, root = tmp_path / "proved-argon2.jar", TOP / "out/aarch64/root"
     made = start(SHARED / "aarch64_root", root)
     if made.returncode == 77:
@@ -162,7 +163,7 @@ def test_its_own_tests_pass_on_arm64(classes, drawn, tmp_path):
 
 
 def test_each_public_member_is_documented(tmp_path):
-    """(a comment of a few words needs no tag for each argument)"""
+    """A comment of a few words needs no tag for each argument."""
     done = start("javadoc", "-quiet", "-Xdoclint:all", "-d", tmp_path, *JAVA.rglob("src/**/*.java"))
     found = [line for line in done.stderr.splitlines() if re.search("(warning|error): ", line)]
     assert done.returncode == 0 and not [line for line in found if not re.search("warning: no @(param|return)", line)]
@@ -183,7 +184,7 @@ def test_each_number_is_a_value_or_its_error(jar, classes, drawn, tmp_path):
 
 
 def headers():
-    """The folders of JNI's headers."""
+    """Returns the folders of JNI's headers."""
     include = Path(shutil.which("javac")).resolve().parents[1] / "include"
     return include, include / "linux"
 
@@ -196,7 +197,7 @@ def test_denied_memory_and_threads(jar, classes, drawn, tmp_path):
 
 
 def code_of(page, at):
-    """A piece of Java on the page."""
+    """Returns a piece of Java on the page."""
     return re.findall(r"^```java\n(.*?)^```", (TOP / "docs" / page).read_text(), re.M | re.S)[at]
 
 
@@ -243,7 +244,7 @@ def test_the_native_calls_hash_and_verify_where_no_java_runs(tmp_path, compiler,
 
 
 def write_program(folder):
-    """A program that prints `false`."""
+    """Returns a program that prints `false`."""
     program = folder / "Program.java"
     program.write_text("class Program { public static void main(String[] none) {\n"
                        "System.out.println(new proved.argon2.PasswordHasher().verifyUnknown(new byte[0])); } }")

@@ -183,7 +183,7 @@ static void hear_all(call *calls, size_t count)
     }
 }
 
-/* How many of some hashes that begin at the same time are right. */
+/* Returns how many hashes are right that begin at the same time. */
 static size_t hash_at_once(size_t count, uint32_t kib)
 {
     static call calls[RUNS];
@@ -235,7 +235,7 @@ static void check_callbacks(void)
     expect(code_of_stopped(0) == PROVED_ARGON2_OK, "a run that nothing can stop has no callback");
 }
 
-/* How many kibibytes of memory this process has. */
+/* Returns how many kibibytes of memory this process has. */
 static long resident(void)
 {
     long pages = 0;

@@ -10,7 +10,7 @@ import { PassThrough } from 'node:stream';
 import { json } from 'node:stream/consumers';
 import { fileURLToPath } from 'node:url';
 
-/** Whether a program exists, such as a browser. */
+/** Returns whether a program exists, such as a browser. */
 export const isThere = (program) => spawnSync('sh', ['-c', `command -v ${program}`]).status === 0;
 
 /** A browser, or its page, has ended while something waited for it. */
@@ -19,7 +19,7 @@ export class BrowserEnded extends Error {}
 /** The timeout of a browser's steps, in milliseconds: nothing waits for ever. */
 const LONGEST_WAIT = 300000;
 const TYPES = { '.html': 'text/html', '.css': 'text/css', '.js': 'text/javascript', '.wasm': 'application/wasm' };
-/** What isolates a page from other origins, so that its workers can share a memory. */
+/** These isolate a page from other origins, so that its workers can share a memory. */
 const ISOLATED = { 'Cross-Origin-Opener-Policy': 'same-origin', 'Cross-Origin-Embedder-Policy': 'require-corp' };
 
 /** The page around a page: it reports the values of expressions with the page's document and frame. */
@@ -98,7 +98,7 @@ class Browser {
         }
         response.writeHead(200, { 'Content-Type': type, ...isolated });
         if (path === '/asked') {
-            // (when its page crashed, Firefox closes the request at the next write)
+            // When its page crashed, Firefox closes the request at the next write.
             this.#beats = setInterval(() => this.#asked.write(':\n\n'), 1000);
             this.#asked.pipe(response).once('close', () => this.#end('its page has ended'));
         } else {
@@ -203,7 +203,7 @@ export class Firefox extends Browser {
 /** The browser of WebKitGTK, on a display that nobody looks at. WebKit is Safari's engine. */
 export class WebKit extends Browser {
     static command = ['xvfb-run', '--auto-servernum', '/usr/lib/x86_64-linux-gnu/webkit2gtk-4.1/MiniBrowser'];
-    // (in Safari, isolated pages can share memory; WebKitGTK needs an option)
+    // In Safari, isolated pages can share memory; WebKitGTK needs an option.
     static variables = { GDK_BACKEND: 'x11', JSC_useSharedArrayBuffer: '1' };
     options = ['--private'];
 }

@@ -60,7 +60,7 @@ function folderWith(program, name = 'app.mjs') {
     return folder;
 }
 
-// (so that Debian's programs find what they need, even in a Node that is not Debian's)
+// Debian's programs then find what they need, even in a Node that is not Debian's.
 const NODE_OPTIONS = `--require=${join(import.meta.dirname, 'debian.cjs')}`;
 const env = { ...process.env, NODE_PATH: '/usr/share/nodejs', NODE_OPTIONS };
 const run = (folder, command, ...words) => promisify(execFile)(command, words, { cwd: folder, timeout: 600000, env });
@@ -77,7 +77,7 @@ async function runsInPage(folder, policy, isIsolated) {
     }
 }
 
-/** Why a test is skipped: a program that it needs is missing. */
+/** Returns the reason to skip a test if a program that it needs is missing. */
 function lacks(...programs) {
     const lacking = programs.find((program) => !isThere(program));
     return lacking === undefined ? false : `there is no ${lacking}`;

@@ -189,7 +189,7 @@ async function bytesOfBuffers(callWith) {
     return made;
 }
 
-/** (A buffer that was moved to a worker has no bytes here.) */
+/** A buffer that was moved to a worker has no bytes here. */
 const isZero = (bytes) => bytes.length === 0 || bytes.every((byte) => byte === 0);
 const SECRET = Uint8Array.of(1, 2, 3);
 
@@ -262,7 +262,7 @@ const UNLOADABLE = 'data:text/javascript,process.dlopen = () => { globalThis.loa
 const OLD = 'data:text/javascript,delete process.getBuiltinModule; delete globalThis.crypto';
 const { allowedNodeEnvironmentFlags, arch, platform, versions } = process;
 const PERMISSION = ['--permission', '--experimental-permission'].find((flag) => allowedNodeEnvironmentFlags.has(flag));
-/** What a call gives in a process with some flags, and with variables. */
+/** Calls in processes with some flags, and with variables. */
 const PROCESSES = [
     ['an engine without WebAssembly is Unsupported', ['--jitless'], { PROVED_ARGON2_NATIVE: '0' },
         "hash('password')", 'Unsupported: This engine has no WebAssembly'],

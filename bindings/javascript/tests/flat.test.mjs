@@ -10,9 +10,9 @@ const CALLS = 300;
 /** In KiB. The larger one is as much as a worker's memory may take. */
 const SIZES = [4096, 16384];
 const LANES = [1, 4];
-/** How much a process may grow: by its workers' code and heaps. */
+/** A process may grow by its workers' code and heaps. */
 const BESIDES = 96 * MIB;
-/** How long workers stay, in milliseconds. */
+/** Workers stay this long, in milliseconds. */
 const LONG = 1000;
 const SOON = 50;
 /** Enough passes that a call is killed long before its end. */
@@ -20,7 +20,7 @@ const ENDLESS = 2 ** 20;
 
 os.availableParallelism = () => WORKERS;
 
-// (dropped memory has to be collected)
+// Dropped memory has to be collected.
 process.env.KEEPS_INSTANCES = 'no';
 const { letStay, workers } = await import('./watching.mjs');
 const argon2 = await import('proved-argon2');
@@ -86,7 +86,7 @@ for (const [what, [calls, stay, memories, makeCall]] of Object.entries(KINDS)) {
             await makeCall(call);
             most = Math.max(most, above());
         }
-        // (if workers end soon, their memory may be gone unseen)
+        // If workers end soon, their memory may be gone unseen.
         assert.ok(stay < LONG || memories < WORKERS || most > SIZES[1] * 1024 / 2, 'no memory was seen');
         assertFlat(most, memories);
         letStay(SOON);

@@ -1,4 +1,4 @@
-// What callers pass: passwords, views without bytes, forged objects, inherited options, and missing ones.
+// Callers pass passwords, views without bytes, forged objects, inherited options, and too few arguments.
 import assert from 'node:assert/strict';
 import { test } from 'node:test';
 import * as argon2 from 'proved-argon2';
@@ -76,7 +76,7 @@ test('properties that a view overrides are not read', async () => {
 
 /** The outcomes of the calls that a function makes while Object.prototype has properties named as options. */
 async function outcomesWithInherited(call) {
-    // (no `signal`: it would end Node's own streams)
+    // There is no `signal`, which would end Node's own streams.
     const added = {
         memoryCost: 8, timeCost: 1, parallelism: 8, type: 0, version: 16, hashLength: 4, salt: SALT, limits: null,
         raw: true, secret: SALT, associatedData: 1, worker: 1, threads: 0, onProgress: 1, work: 1, line: 1,
@@ -140,7 +140,7 @@ test('an option that is undefined counts as missing, and options need no prototy
 });
 
 test('a string of node-argon2 that contains its associated data is verified with it', async () => {
-    // (made by libargon2 with the data "user 7", and written as node-argon2 does)
+    // libargon2 made it with the data "user 7". It is written as node-argon2 does.
     const encoded = process.env.WITH_DATA;
     assert.match(encoded, /,data=dXNlciA3\$/);
     const options = { associatedData: Buffer.from('user 7') };
@@ -171,7 +171,7 @@ test('a password that is a string is encoded in UTF-8, and different strings nev
     assert.deepEqual(await argon2.hash(text, same), await argon2.hash(new TextEncoder().encode(text), same));
     assert.deepEqual(await argon2.hash(text, same), await argon2.hash(new TextEncoder().encode(text).buffer, same));
     assert.notDeepEqual(await argon2.hash(text, same), await argon2.hash(text.slice(0, -1), same));
-    // (strings that look alike may have different bytes; they are not normalized)
+    // Strings that look alike may have different bytes; they are not normalized.
     for (const form of ['NFC', 'NFD', 'NFKC', 'NFKD']) {
         const normalized = 'pässwörd ﬁ \u212b'.normalize(form);
         const bytes = new TextEncoder().encode(normalized);

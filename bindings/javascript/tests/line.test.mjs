@@ -173,7 +173,7 @@ test('verifyAndUpdate takes one place for both of its calls, and copies its inpu
     const { matches, update } = await call;
     assert.equal(matches, true);
     assert.equal(await verify(update, 'password', { secret, associatedData }), true);
-    // (one of these waits until the call has ended)
+    // One of these waits until the call has ended.
     assert.deepEqual((await Promise.all(busy)).filter((outcome) => outcome !== 'BusyError'), [1]);
     assert.equal(busy.length, 8 + 4);
 });

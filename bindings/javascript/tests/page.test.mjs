@@ -14,16 +14,16 @@ const CALLS = 300;
 const AT_ONCE = 10;
 /** In KiB. The larger one is as much as a worker's memory may take. */
 const MEMORIES = [4096, 16384];
-/** How much a browser may grow: by its workers' code and heaps. */
+/** A browser may grow by its workers' code and heaps. */
 const BESIDES = 64 * MIB;
 /** Workers end after 5 seconds without work. */
 const IDLE = { tries: 40, pause: 500 };
-/** How wide the page is on a screen, and on a phone. */
+/** The page's widths on a screen, and on a phone. */
 const WIDTHS = [1040, 390];
 
 const MEASURED = `document.getElementById('estimate').textContent.startsWith('A hash takes')`;
 
-/** What does not fit into its place. */
+/** Finds the texts that do not fit into their places. */
 const TOO_WIDE = `[...document.querySelectorAll('form, p')]
     .filter((element) => element.scrollWidth > element.clientWidth).map((element) => element.textContent)`;
 

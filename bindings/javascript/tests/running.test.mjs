@@ -1,4 +1,4 @@
-// How calls run: by the addon and by workers, with progress, an end on demand, and what is left in memory.
+// Calls run by the addon and by workers. They tell their progress, end on demand, and leave nothing in memory.
 import assert from 'node:assert/strict';
 import { spawn } from 'node:child_process';
 import { getEventListeners, once } from 'node:events';
@@ -16,7 +16,7 @@ const NATIVE = { memoryCost: 1024, timeCost: 1, salt: new Uint8Array(16), raw: t
 const ENDLESS = '{ memoryCost: 65536, timeCost: 1000, parallelism: 2, native: true, onProgress }';
 const SOON = 10000;
 
-// (before others, whose threads stay)
+// This comes before the others, whose threads stay.
 test('a thread computes one hash after another', async () => {
     const threads = () => new Set(readdirSync('/proc/self/task'));
     const before = threads();
@@ -185,7 +185,7 @@ test('after a call its signal has no listener, and aborting it does nothing', as
     assert.equal(await argon2.verify(await argon2.hash('password', { ...SMALL, raw: false }), 'password'), true);
 });
 
-/** What computes in a process: workers, or the addon's threads and a few of Node's own, which come and go. */
+/** Workers compute in a process, or the addon's threads do. Node has a few of its own, which come and go. */
 const COMPUTING = {
     workers: [false, () => workers.length, availableParallelism()],
     threads: [true, () => readdirSync('/proc/self/task').length, 2 * availableParallelism()],

@@ -40,7 +40,7 @@ function* memoryOf(pid) {
     closeSync(file);
 }
 
-/** How many of these begin somewhere in the memory of a process. */
+/** Returns how many of these begin somewhere in the memory of a process. */
 function countIn(pid, secrets) {
     const found = new Set();
     let bytes = 0;
@@ -75,7 +75,7 @@ async function lookInto(words) {
     return { ...seen, masked: masked.found };
 }
 
-/** What the searched process does. */
+/** The process that is searched runs this. */
 async function useSecrets() {
     const objects = [];
     for (let round = 0; round < ROUNDS; round++) {
@@ -84,7 +84,7 @@ async function useSecrets() {
         console.log(hidden(secret));
         const running = { ...RUNNINGS[round % RUNNINGS.length], secret };
         const made = argon2.hash(password, { ...running, memoryCost: 64, timeCost: 1, parallelism: LANES });
-        // (what is on the engine's heap is moved by its collector)
+        // What is on the engine's heap is moved by its collector.
         objects.push(Array.from({ length: 20000 }, () => ({})));
         objects.splice(0, objects.length - 3);
         console.log(await made);

@@ -1,4 +1,4 @@
-// What a service calls beside hash and verify: it renews hashes, rotates peppers, and takes settings for this machine.
+// Beside hash and verify, a service renews hashes, rotates peppers, and chooses settings for this machine.
 import assert from 'node:assert/strict';
 import os from 'node:os';
 import { readFileSync, writeFileSync } from 'node:fs';
@@ -303,7 +303,7 @@ test('tune waits in a line before it measures, and not while it does', async () 
     }
     const tuned = await argon2.tune(60000, { memoryCost: 8192, line: new CountingLine({ concurrency: 1 }) });
     assert.equal(tuned.parameters.timeCost, 10);
-    // (The addon searches in one turn. Otherwise there is one for 5 passes and one for 10.)
+    // The addon searches in one turn. Otherwise there is one for 5 passes and one for 10.
     assert.equal(turns, process.env.PROVED_ARGON2_NATIVE === '0' ? 2 : 1);
 });
 

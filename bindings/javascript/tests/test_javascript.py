@@ -28,7 +28,7 @@ ASKS = {"dependencies", "optionalDependencies", "peerDependencies", "scripts", "
 
 @pytest.fixture(scope="module")
 def named(drawn):
-    """What the tests are told."""
+    """Returns the variables with which the tests run."""
     data = run(sys.executable, "bindings/vectors/drawn.py", "data").strip()
     return {"VECTORS": TOP / "bindings/vectors", "HEADER": HEADERS / "proved_argon2.h", "WITH_DATA": data,
             "PAGE": TOP / "docs/demo", **drawn}
@@ -59,7 +59,7 @@ def system(tmp_path_factory):
 
 @needs("debootstrap")
 def test_its_own_tests_pass_in_the_node_of_debian_s_sid(site, named, system):
-    """(tests by workers use WebAssembly; the random hashes are beside the site)"""
+    """Tests by workers use WebAssembly. The random hashes are in a file beside the site."""
     words = "unshare", "--mount", "--propagation", "private", "bash", "-euc", OTHER_NODE, "bash"
     judge(site, named, OWN, *words, system, site.parent, TOP)
 

@@ -1,4 +1,4 @@
-// What the types let through, and what they do not: tsc --noEmit --strict. It is never run.
+// Some of these calls are accepted by the types, and some are not: tsc --noEmit --strict. It is never run.
 import argon2, {
     AbortError, Argon2Error, BusyError, Line, PepperedHasher, SaltTooShort, UnknownPepper, argon2id, defaultLimits,
     hash, needsRehash, presets, tune, verify, verifyAndUpdate, verifyUnknown,

@@ -1,4 +1,4 @@
-// What the tests see of the package from outside: which workers are started, and what all memories of the module hold.
+// The tests see this of the package from outside: its workers, and the contents of all memories of the module.
 // It is loaded before the package, in the thread of a test and, by `--import`, in each worker.
 import { execFile } from 'node:child_process';
 import { setTimeout as sleep } from 'node:timers/promises';
@@ -29,7 +29,7 @@ WebAssembly.instantiate = async (...values) => {
 const held = (memory, from, to) => new Uint32Array(memory.buffer, from, (to - from) / 4)
     .reduce((bytes, word) => bytes + (word === 0 ? 0 : 4), 0);
 
-/** How many bytes of the memories are in non-zero words outside of the module's tables, and how many in all. */
+/** Counts the bytes of the memories in non-zero words outside of the module's tables, and all of them. */
 export function look() {
     const memories = instances.map(({ base, memory }) => {
         const bytes = memory.buffer.byteLength;
@@ -39,7 +39,7 @@ export function look() {
     return { threadId, bytes: sumOf('bytes'), held: sumOf('held') };
 }
 
-/** What the memories of each worker hold. */
+/** Returns the same of each worker. */
 export async function lookIntoWorkers() {
     const channel = new BroadcastChannel('memories');
     const found = [];
@@ -52,7 +52,7 @@ export async function lookIntoWorkers() {
     return found;
 }
 
-/** How long idle workers stay from now on: otherwise they may end while a test waits. */
+/** Has idle workers stay this long from now on. Otherwise they may end while a test waits. */
 export function letStay(milliseconds) {
     stays = milliseconds;
 }
@@ -84,7 +84,7 @@ function watchWorkers() {
 
 function tellWhatIsHeld() {
     const channel = new BroadcastChannel('memories');
-    // (ignores other workers' answers)
+    // This ignores other workers' answers.
     channel.onmessage = ({ data }) => data === 'look' && channel.postMessage(look());
     channel.unref();
 }

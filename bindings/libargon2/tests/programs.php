@@ -1,5 +1,5 @@
 <?php
-// What PHP answers over the libargon2.so.1 of this process: php programs.php make|check FILE|errors|sodium
+// Runs PHP's calls over the libargon2.so.1 of this process: php programs.php make|check FILE|errors|sodium
 
 const PASSWORDS = ['', 'pw', "p\u{e4}ss", "a\0b"];
 
@@ -58,7 +58,7 @@ function errors(): void
     }
 }
 
-// Whether libsodium and the library each accept the other's hashes of a password, and reject another password.
+// Checks that libsodium and the library accept each other's hashes of a password, and reject another password.
 function sodium(): void
 {
     foreach (array_slice(PASSWORDS, 1) as $password) {

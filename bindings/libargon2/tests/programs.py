@@ -17,7 +17,7 @@ from pathlib import Path
 import pytest
 
 HERE, FOLDER = Path(__file__).resolve().parent, Path(os.environ['LIBARGON2']).resolve()
-# What each library takes in the environment of a program.
+# A program needs these variables to use each library.
 LIBRARIES = {'debian': {'LD_LIBRARY_PATH': ''}, 'ours': {'LD_LIBRARY_PATH': str(FOLDER)},
              'preloaded': {'LD_LIBRARY_PATH': '', 'LD_PRELOAD': str(FOLDER / 'libargon2.so.1')}}
 BOTH = 'debian', 'ours'
@@ -65,7 +65,7 @@ def answer(*words, libraries=BOTH):
 
 
 def file_of(program):
-    """The file of a program that is linked with the library."""
+    """Returns the file of a program that is linked with the library."""
     if program == 'cryptsetup':
         return re.search(r'libcryptsetup\S* => (\S+)', run('debian', 'ldd', CRYPTSETUP)[0])[1]
     return SLAPD if program == 'slapd' else os.path.realpath(PHP) if program == 'php' \
@@ -136,7 +136,7 @@ def test_both_open_a_header_with_the_right_key_alone(tmp_path, maker, kind, lane
 # ---- OpenLDAP
 
 def ldap_server_of(hashes):
-    """The configuration of a server with a database for each hash, whose root has it as the password."""
+    """Returns the configuration of a server with a database for each hash, whose root has it as the password."""
     databases = ''.join(f'database null\nsuffix "dc={number}"\nrootdn "cn=root,dc={number}"\nrootpw {each}\n'
                         for number, each in enumerate(hashes))
     return ('include /etc/ldap/schema/core.schema\nmodulepath /usr/lib/ldap\nmoduleload back_null.so\n'
@@ -179,7 +179,7 @@ def test_openldap_takes_hashes_of_both_with_the_right_password_alone(tmp_path):
 # ---- the command
 
 def command_outcome(command, words, password):
-    """The output of a command, with no time in it, its error and its status."""
+    """Returns the output of a command, with no time in it, its error and its status."""
     done = subprocess.run(['argon2', *words], executable=command, input=password, capture_output=True, check=False,
                           timeout=600)
     return re.sub(rb'(?m)^\d+\.\d{3} seconds$', b'seconds', done.stdout), done.stderr, done.returncode

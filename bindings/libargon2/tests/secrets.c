@@ -1,4 +1,4 @@
-/* Whether calls of libargon2.so.1 leave anything of H0, blocks or the tag in writable memory or registers, even if a
+/* Checks that calls of libargon2.so.1 leave nothing of H0, blocks or the tag in writable memory or registers, even if a
  * symbol is bound lazily after them. With H0 a password guess costs one BLAKE2b. The proved calls
  * (libproved_argon2.a) say what to search for. It is linked with --wrap for what system.h replaces. */
 #define _GNU_SOURCE
@@ -46,7 +46,7 @@ static argon2_context context_of(struct call *call)
         .version = call->settings.version};
 }
 
-/* (the inputs are not written to: there are no flags) */
+/* The inputs are not written to, since there are no flags. */
 static int does_ctx(void)
 {
     argon2_context c = context_of((struct call *)(uintptr_t)&calls[SMALL]);
@@ -75,7 +75,7 @@ static uint32_t does_row(const void *row)
     return (uint32_t)((const struct row *)row)->does();
 }
 
-/* (nothing else here calls getpgrp) */
+/* Nothing else here calls getpgrp. */
 static void calls_late(void)
 {
     (void)!getpgrp();

@@ -38,7 +38,7 @@ assert len(FAULTS) == 18
 
 @pytest.fixture(scope="module")
 def work(tmp_path_factory):
-    """A folder with the tests, and lib, for LD_LIBRARY_PATH."""
+    """Returns a folder with the tests, and lib, for LD_LIBRARY_PATH."""
     folder = tmp_path_factory.mktemp("libargon2")
     shutil.copytree(BUILT, folder / "lib", ignore=shutil.ignore_patterns("*.so"))  # (release/ has no such links)
     (folder / "lib/libargon2.so").symlink_to("libargon2.so.1")
@@ -54,13 +54,13 @@ def work(tmp_path_factory):
 
 
 def interface(source, to, *flags):
-    """The interface, whose proved code has no sanitizers."""
+    """Returns the interface, whose proved code has no sanitizers."""
     run(*CC, "-fPIC", "-shared", "-pthread", source, ARCHIVE, f"-Wl,--version-script={HERE}/libargon2.map", "-o", to,
         *flags)
 
 
 def over(folder, *command):
-    """A program over the library of a folder."""
+    """Returns a program over the library of a folder."""
     return ["env", f"LD_LIBRARY_PATH={folder}", *command]
 
 
@@ -96,7 +96,7 @@ def test_links_both_archives_and_names_an_older_processor(tmp_path):
 
 # ---- what it returns
 
-# What calls leave of H0 and a tag; at most 16 threads for an encoded hash; and processes that are denied something.
+# These look for H0 and a tag after calls, count the threads for an encoded hash, and deny processes something.
 @pytest.mark.parametrize("words", [
     ("secrets",), ("starved", "texts", 0), *(("starved", kind, at) for kind in KINDS for at in range(20))],
     ids=lambda words: " ".join(map(str, words)))
@@ -115,7 +115,7 @@ def test_vectors(folder):
 
 
 def fetched(kind, package, folder):
-    """The source of Debian's newest package, or the package, where it can be had."""
+    """Returns the source of Debian's newest package, or the package, where it can be had."""
     if not fetch(f"fetch_{kind}", package, folder):
         pytest.skip(f"{package} cannot be had")
     return folder
@@ -144,7 +144,7 @@ def test_own_tests_of_argon2_cffi(work, tmp_path):
 
 
 def test_drawn_calls_with_sanitizers(work):
-    """(Python itself leaves memory at its end)"""
+    """We do not look for leaks, since Python itself leaves memory at its end."""
     interface(HERE / "libargon2.c", work / "sanitized.so", *SANITIZE.split())
     run("env", f'LD_PRELOAD={run("gcc", "-print-file-name=libasan.so").strip()}', "PYTHONMALLOC=malloc",
         "ASAN_OPTIONS=leak_check_at_exit=0", *FUZZ, SEED + 4, SANITIZED, THEIRS, work / "sanitized.so")

@@ -23,7 +23,7 @@ SETTINGS = ((19456, 2, 1), (65536, 3, 4), (65536, 4, 1))  # memory, passes, lane
 
 
 def seconds(folder, words):
-    """The processor time of a program over a library, including the time that the system spends for it."""
+    """Returns the processor time of a program over a library, including the time that the system spends for it."""
     before = resource.getrusage(resource.RUSAGE_CHILDREN)
     subprocess.run(words, env={**os.environ, 'LD_LIBRARY_PATH': folder}, check=True, stdout=subprocess.DEVNULL)
     after = resource.getrusage(resource.RUSAGE_CHILDREN)

@@ -33,7 +33,7 @@ static int is_memory_right(uint32_t mem_cost)
     return 1;
 }
 
-/* (with addresses of 64 bits there may be as much memory) */
+/* With addresses of 64 bits there may be as much memory. */
 static int is_text_right(void)
 {
     static const char text[] = "$argon2id$v=19$m=8,t=1,p=1$c29tZXNhbHQ$AAAAAAAA";

@@ -34,7 +34,7 @@ STORED = Parameters(type=Type.ID, version=19, memory_cost=64, time_cost=3, paral
 VALUES = {"tag": b"x" * 5, "text": b"x" * 12, "true": True, "false": errors.VerifyMismatchError,
           "costly": errors.TooCostlyError, "stored": STORED}
 VERDICTS = {0: True, HEADER["MISMATCH"]: VALUES["false"], HEADER["TOO_COSTLY"]: VALUES["costly"]}
-# How many threads a verification asks for: the library uses one for each lane, and at most 16.
+# A verification asks for this many threads: the library uses one for each lane, and at most 16.
 MOST = 0xFFFFFFFF
 CALLS = {
     "hash_raw": lambda **named: hash_secret_raw(*HASH, **{**NAMED, **named}),
@@ -57,7 +57,7 @@ each_call = pytest.mark.parametrize("name", CALLS)
 
 
 def said_of(number):
-    """The stub's message for a number. NOT_ASCII has that of DECODING_FAIL: both mean no encoded hash."""
+    """Return the stub's message for a number. NOT_ASCII has that of DECODING_FAIL: both mean no encoded hash."""
     return f"N{(HEADER['DECODING_FAIL'] if number == HEADER['NOT_ASCII'] else number) % 1000:03}"
 
 
@@ -77,8 +77,8 @@ def nothing_is_wrong():
 
 
 def gives(place, call, values, other, saw=lambda number: True):
-    """For each number, `call` has to return its value, or raise its exception (`other` if it has none), with
-    the number's message."""
+    """Checks that `call` returns each number's value, or raises its exception (`other` if it has none) with the
+    number's message."""
     for number in NUMBERS:
         set_answers(**{place: number})
         expected = values.get(number, other)
@@ -196,7 +196,7 @@ def test_a_hasher_passes_its_arguments_and_limits_in_order(keep_memory):
 
 
 def computing(**named):
-    """The calls that take a progress callback."""
+    """Yield the calls that take a progress callback."""
     for memory in (None, Memory(64)):
         hasher = PasswordHasher(keep_memory=memory is not None)
         yield from (lambda call=call: call(memory=memory, **named) for call in CALLS.values())

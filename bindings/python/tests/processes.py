@@ -1,4 +1,4 @@
-"""What tests see of processes: how much memory one has, and how a forked child ends."""
+"""Tells how much memory a process has, and how a forked child ends."""
 import os
 import signal
 import time

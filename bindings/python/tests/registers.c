@@ -1,5 +1,5 @@
-/* What a call of the library leaves in the vector registers. Python loads this beside the library and makes the call
- * through it, since the interpreter would overwrite the registers first. */
+/* Tells what a call of the library leaves in the vector registers. Python loads this beside the library and makes the
+ * call through it, since the interpreter would overwrite the registers first. */
 #include "../../c/tests/registers.h"
 
 #include <stddef.h>

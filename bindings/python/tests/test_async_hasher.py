@@ -348,7 +348,7 @@ async def hash_and_verify(hasher, count=3):
 
 @pytest.fixture
 def used():
-    """A hasher for three calls at a time, which this process has used."""
+    """Return a hasher for three calls at a time, which this process has used."""
     hasher = AsyncPasswordHasher(HASHER, concurrency=2, waiting=1)
     asyncio.run(hash_and_verify(hasher, 1))
     return hasher
@@ -366,7 +366,7 @@ def test_a_child_that_is_forked_between_calls_can_make_calls(used):
 
 @of_threads_that_fork
 def test_a_child_that_is_forked_during_calls_has_all_places(used):
-    """In the parent two calls compute and one waits, so that there is no place left."""
+    """The parent has no place left, since two calls compute and one waits."""
     async def fork():
         used.hasher = LONG
         calls = [asyncio.ensure_future(used.hash("password")) for _ in range(3)]

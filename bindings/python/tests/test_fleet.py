@@ -1,5 +1,5 @@
-"""What docs/USE.md says under "Many machines": two machines share a store of users, and each change reaches the first
-machine before the second. In the documented order, everybody can log in on both machines all the time."""
+"""The advice of docs/USE.md for many machines holds: two machines share a store of users, and each change reaches the
+first machine before the second. In the documented order, everybody can log in on both machines all the time."""
 import pytest
 from proved_argon2 import Limits, PepperedHasher, extract_parameters
 from proved_argon2.exceptions import TooCostlyError, VerificationError
@@ -67,7 +67,7 @@ def test_the_documented_order_locks_nobody_out(fleet):
 
 @pytest.mark.parametrize("steps, error", [
     ([(LARGE, WIDE, OLD)], TooCostlyError),
-    # (a machine whose limits are below its own settings does not start)
+    # A machine whose limits are below its own settings does not start.
     ([(LARGE, NARROW, OLD), (LARGE, WIDE, OLD)], ValueError),
     ([(SMALL, NARROW, RENEWED)], VerificationError)], ids=["both at once", "settings first", "a key in use at once"])
 def test_another_order_locks_a_user_out(fleet, steps, error):

@@ -9,7 +9,7 @@ import pytest
 from proved_argon2 import _library
 
 MOST_MILLISECONDS = 50
-# How often an import is measured before it counts as too slow: other programs may need the processor.
+# An import is measured this often before it counts as too slow, since other programs may need the processor.
 TRIES = 40
 FOLDER = Path(proved_argon2.__file__).resolve().parents[1]
 

@@ -167,7 +167,7 @@ def test_limits_that_are_passed_stay_as_they_are(limits):
 @pytest.mark.parametrize("name, own", [
     ("memory_cost", 1024), ("time_cost", 3), ("parallelism", 4), ("work", 3 * 1024)])
 def test_limits_below_the_hasher_s_own_settings_are_rejected(name, own):
-    """With them it could not verify its own hashes."""
+    """Otherwise it could not verify its own hashes."""
     settings = {"time_cost": 3, "memory_cost": 1024, "parallelism": 4}
     least = Limits(memory_cost=1024, time_cost=3, parallelism=4, work=3 * 1024)
     hasher = PasswordHasher(**settings, limits=least)

@@ -399,7 +399,7 @@ def test_verify_unknown_raises_other_errors_and_stops():
 
 @pytest.mark.parametrize("hash", [None, 5, bytearray(TEXT.encode()), ["x"]])
 def test_a_hash_that_is_neither_str_nor_bytes_is_rejected(hash):
-    """For example `None`, which a user without a password may have."""
+    """A user without a password may have `None`."""
     hasher = PasswordHasher()
     for call in (hasher.verify, hasher.verify_and_update):
         with pytest.raises(TypeError, match="^'hash' must be str or bytes, not "):

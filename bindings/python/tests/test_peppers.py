@@ -140,7 +140,7 @@ def test_other_errors_are_those_of_password_hasher():
 
 def test_progress_stops_each_call():
     class Stopped(Exception):
-        """What `progress` raises."""
+        """`progress` raises this."""
 
     def stop(done, slices):
         raise Stopped

@@ -16,7 +16,7 @@ from proved_argon2.low_level import Memory, hash_secret, hash_secret_raw, verify
 
 # A hash that takes more than a minute, in slices of a millisecond.
 LONG = {"time_cost": 200000, "memory_cost": 8192}
-# How many seconds a call may take to stop on a busy machine.
+# A call may take this many seconds to stop on a busy machine.
 PATIENCE = 20
 TEXT = "$argon2id$v=19$m=8192,t=200000,p=2$c29tZXNhbHQ$AAAAAAAAAAAAAAAAAAAAAA"
 PROGRAM = f"""
@@ -117,7 +117,7 @@ def alarm():
         signal.setitimer(signal.ITIMER_REAL, *seconds)
 
     yield set_alarm
-    # (stopped first, since a late signal must not reach the previous handler, which is that of pytest's timeout)
+    # The timer stops first, since a late signal must not reach the previous handler, that of pytest's timeout.
     signal.setitimer(signal.ITIMER_REAL, 0)
     signal.signal(signal.SIGALRM, before)
 

@@ -86,7 +86,7 @@ def test_each_number_that_the_library_can_return(with_library, tmp_path):
 
 
 def test_a_verification_leaves_no_tag_in_the_vector_registers(with_library, tmp_path):
-    """After a register was filled with the tag, the search finds both pieces."""
+    """The search finds both pieces once a register was filled with the tag."""
     looker = compile_shared(TESTS / "registers.c", tmp_path / "registers.so")
     assert re.match(r"0 2 \w", run(PYTHON, "-c", REGISTERS, looker, env=with_library))
 

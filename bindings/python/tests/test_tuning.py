@@ -55,7 +55,7 @@ def test_tune_async_finds_the_same_while_the_event_loop_goes_on():
 
 
 def test_a_cancelled_search_ends_soon():
-    """Without a limit of time, the search would compute about 30 hashes with 2 GiB."""
+    """The search would compute about 30 hashes with 2 GiB if it had no limit of time."""
     found = []
 
     def threads():

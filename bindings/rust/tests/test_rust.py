@@ -84,7 +84,7 @@ fn main() -> Result<(), Box<dyn std::error::Error>> {
         let long = Config { hash_length: u32::MAX, ..config };
         assert_eq!(argon2::hash_raw(b"password", b"salt", &long), Err(argon2::Error::SaltTooShort));
         assert_eq!(argon2::hash_raw(b"password", b"somesalt", &long), Err(argon2::Error::OutOfMemory));
-        // (no such file: that is the system's error from here on)
+        // There is no such file: that is the system's error from here on.
         std::fs::File::open("/nowhere/at/all").unwrap_err();
         let large = Config { mem_cost: u32::MAX, ..config };
         assert_eq!(argon2::hash_encoded(b"password", b"somesalt", &large), Err(argon2::Error::OutOfMemory));
@@ -100,7 +100,7 @@ fn main() -> Result<(), Box<dyn std::error::Error>> {
 
 @pytest.fixture(scope="module")
 def cargo(built, cargo):
-    """The environment of cargo, in which PROVED_ARGON2_LIB_DIR names the folder of the library."""
+    """Returns the environment of cargo, in which PROVED_ARGON2_LIB_DIR names the folder of the library."""
     return {**cargo, "PROVED_ARGON2_LIB_DIR": built / MACHINE, "PKG_CONFIG_PATH": None}
 
 
@@ -110,8 +110,8 @@ def test_the_tests_of_the_crate_pass(cargo, drawn):
 
 @pytest.fixture(scope="module")
 def ask(cargo, tmp_path_factory):
-    """A function that makes calls over the library of codes.c, and returns what codes.rs prints. A call is its name,
-    how it is made, and the numbers that the library returns."""
+    """Returns a function that makes calls over the library of codes.c, and returns what codes.rs prints. A call is its
+    name, how it is made, and the numbers that the library returns."""
     folder = tmp_path_factory.mktemp("codes")
     run(CC, "-Wall", "-Wextra", "-Werror", "-O1", "-I", TOP / "bindings/c/include", "-c",
         "bindings/tests/codes.c", "-o", folder / "codes.o")
@@ -133,10 +133,10 @@ SHOWN = {"tag": "Ok([120, 120, 120, 120, 120])", "text": f'Ok("{12 * "x"}")', "t
                                                "time_cost: 3, variant: Argon2id, version: Version13 })"}
 ERRORS = {number: name.title().replace("_", "") for name, number in HEADER.items()
           if number in (*range(1, 64), 129, 130, 131) and re.fullmatch("[A-Z_]{3,}", name)}
-# (a string with a byte above 127 has the same error as one that cannot be decoded)
+# A string with a byte above 127 has the same error as one that cannot be decoded.
 ERRORS[HEADER["NOT_ASCII"]] = ERRORS[HEADER["DECODING_FAIL"]]
 MOST = 0xFFFFFFFF
-# How calls are made, and what their progress callback returns.
+# For each way to make a call: what its progress callback returns.
 HOW = {"alone": -1, "over": -1, "run": -1, "tells": 0, "stops": 1, "panics": 1}
 
 
@@ -288,7 +288,7 @@ def test_a_program_with_the_traits_of_password_hash_0_6_succeeds(cargo, tmp_path
 
 
 def test_the_tests_of_rust_argon2_pass(cargo, tmp_path):
-    """Those of Debian's package, unchanged."""
+    """They are those of Debian's package, unchanged."""
     needs_crate("rust-argon2")
     folder = project(tmp_path / "theirs", "", f'{with_crate("crossbeam-utils")}hex = "0.4"', "lib.rs",
                      '[features]\ndefault = ["crossbeam-utils"]\ncrossbeam-utils = []\n')
@@ -341,13 +341,13 @@ def test_clippy_and_rustdoc_report_nothing(cargo):
 
 
 def listed(kind, names):
-    """A line of surface.txt, wrapped."""
+    """Returns a line of surface.txt, wrapped."""
     return textwrap.fill(f"{kind}: {' '.join(names)}", 120, subsequent_indent=" " * 4)
 
 
 def surface_in(folder):
-    """The public items of each kind, and the parts of each item. Presets are left out: newer versions of rustdoc also
-    show those of an alias."""
+    """Returns the public items of each kind, and the parts of each item. Presets are left out: newer versions of
+    rustdoc also show those of an alias."""
     items, parts = {}, {"Config, method": set()}
     for kind, name in ITEM.findall((folder / "all.html").read_text()):
         items.setdefault(kind, []).append(name)

@@ -105,7 +105,7 @@ fn strings_with_any_bytes_and_lengths_are_passed_completely() {
     }
 }
 
-/// Whether a password matches an encoded hash, and its lanes. The calls have different error types.
+/// Returns whether a password matches an encoded hash, and its lanes. The calls have different error types.
 fn is_of(text: &str, pwd: &[u8], limits: &Limits) -> Result<(bool, u32), Unverified> {
     let lanes = read(text)?.lanes;
     Ok((verify_encoded_within(text, pwd, &[], &[], limits)?, lanes))

@@ -1,4 +1,4 @@
-"""What the tests of the shell's commands share."""
+"""The tests of the shell's commands share these functions and values."""
 import ctypes
 import subprocess
 
@@ -15,7 +15,7 @@ SMALL = "argon2id 19 1 8 1 16 seq".split()
 STORED = "$argon2i$v=19$m=256,t=2,p=1$c29tZXNhbHQ$iekCn0Y3spW+sCcFanM2xBT63UP2sghkUoHLIUpWRS8"
 # An encoded hash above `check`'s limits.
 COSTLY = "$argon2id$v=19$m=8,t=1000,p=1$c29tZXNhbHQ$c29tZWhhc2g"
-# What is said of it.
+# The program says this about it.
 ABOVE = b"""The encoded hash is above the limits
 check and new take at most 2 GiB, 10 passes, 16 lanes and the work of 4 GiB in one pass
 """
@@ -32,7 +32,7 @@ def each_command(request, installed, archive):
 
 
 def piped(words, stdin=b"", command=None, **more):
-    """The status, standard output and standard error of the words."""
+    """Returns the status, standard output and standard error of the words."""
     done = subprocess.run([*(command or COMMAND), *words], input=stdin, capture_output=True, timeout=600, **more)
     return done.returncode, done.stdout, done.stderr
 
@@ -50,7 +50,7 @@ class Limits(ctypes.Structure):
 
 
 def numbers(name, kind=Settings):
-    """The result of a library call without arguments: a preset, or the default limits."""
+    """Returns the result of a library call without arguments: a preset, or the default limits."""
     call = getattr(ctypes.CDLL(str(LIBRARY)), f"proved_argon2_{name}")
     call.argtypes, call.restype = [], kind
     return call()

@@ -1,5 +1,5 @@
-"""When the script `argon2` builds the program, in a tree with a stand-in for the toolchain: only if there is no
-program, or a source or the kit has changed. And what it does in a clone with a release."""
+"""The script `argon2` builds the program only if there is none, or a source or the kit has changed (in a tree with a
+stand-in for the toolchain). In a clone with a release, it runs the released program."""
 import os
 import re
 import resource
@@ -10,7 +10,7 @@ import pytest
 from running import BUILDS, PROVED, TOP, refuses, run
 
 CHEAP = "hash argon2id 19 1 8 1 4 seq somesalt".split()
-# What proves and builds: it counts its runs and makes a program that says its arguments.
+# The stand-in for build/prove counts its runs and makes a program that says its arguments.
 STAND_IN = """#!/bin/sh
 echo "$*" >>"$RUNS"
 echo 'the stand-in says why' >&2
@@ -28,7 +28,7 @@ BELOW = {line.split(":")[0]: [name for name in line.split(":")[1].split() if (TO
 
 
 def layers_of(crate):
-    """A crate and those below it."""
+    """Returns a crate and those below it."""
     return {crate}.union(*map(layers_of, BELOW[crate]))
 
 
@@ -147,7 +147,7 @@ def test_a_failed_build_has_status_70_and_its_message_even_if_there_was_a_progra
 
 @pytest.fixture(scope="module")
 def clone(built, tmp_path_factory):
-    """A copy of the repository, with a release of what is built here, and no other built files."""
+    """Returns a copy of the repository, with a release of what is built here, and no other built files."""
     folder = tmp_path_factory.mktemp("clone")
     run("sh", "-c", "git ls-files -z --cached --others --exclude-standard -- ':!release' | tar -c --null -T - | "
         'tar -x -C "$0"', folder)
@@ -172,7 +172,7 @@ def test_the_released_program_runs_even_if_another_one_is_noted_as_built(clone):
 
 
 def test_a_warm_call_takes_at_most_100_milliseconds_more_than_the_program(clone):
-    """Processor time, by turns, the least of ten."""
+    """We compare the least processor time of ten calls, which take turns."""
     def cost(program):
         before = resource.getrusage(resource.RUSAGE_CHILDREN)
         subprocess.run([program, *CHEAP], stdin=subprocess.DEVNULL, stdout=subprocess.DEVNULL, check=True)

@@ -80,7 +80,7 @@ def test_a_full_output_has_status_4(words):
 
 @pytest.fixture
 def in_c(installed):
-    """The program in C, which the installed script starts."""
+    """Returns the program in C, which the installed script starts."""
     return str(installed / "libexec/proved-argon2" / MACHINE / "argon2_tool")
 
 
@@ -102,7 +102,7 @@ def test_the_program_in_c_frees_no_block_with_the_password(in_c, tmp_path):
 
 @pytest.fixture
 def for_newer_glibc(built, tmp_path):
-    """The command of copies of the script and the tool, which need a version of glibc that does not exist."""
+    """Returns the command of copies of the script and the tool, which need a version of glibc that does not exist."""
     libexec = tmp_path / "libexec/proved-argon2"
     (tmp_path / "bin").mkdir()
     script = tmp_path / "bin/proved-argon2"
@@ -157,7 +157,7 @@ def test_bash_completes_the_words(line, expected):
 
 
 def salt_of(output):
-    """The bytes of the salt of a text, as Python reads base64."""
+    """Returns the bytes of the salt of a text, as Python reads base64."""
     return base64.b64decode(output.split(b"$")[4] + b"==", validate=True)
 
 
@@ -278,7 +278,7 @@ def test_new_runs_the_program_once_and_prints_no_text_of_the_empty_password(run_
                                (b"", (2, b"", b"proved-argon2: the password is empty\n"))):
         assert run_script(program, "main", "new", stdin=password) == expected, password
         (tmp_path / "ran").rmdir()
-    # (a program that rejects its arguments before it reads has nothing to do with the password)
+    # A program that rejects its arguments before it reads has nothing to do with the password.
     for status in (2, 4, 70, 139):
         ended, output, errors = run_script(f"exit {status}", "main", "new", stdin=b"x")
         assert (ended, output) == (status, b"") and b"empty" not in errors, status

@@ -1,5 +1,5 @@
-// What the two modules import and export, that they compute the outside vectors, and that no number, place in memory or
-// text makes them trap. MODULES and VECTORS name folders, CALLS has the names of the calls.
+// The two modules import and export what they should, compute the outside vectors, and trap for no number, place in
+// memory or text. MODULES and VECTORS name folders, CALLS has the names of the calls.
 import assert from 'node:assert/strict';
 import { readFileSync } from 'node:fs';
 import { test } from 'node:test';
@@ -8,7 +8,7 @@ import { hashesOf, linesOf } from '../../javascript/tests/hashes.mjs';
 
 const { MODULES: folder, VECTORS: vectors, CALLS } = process.env;
 const load = (name) => new WebAssembly.Module(readFileSync(`${folder}/${name}.wasm`));
-// What a module imports, and what it exports beside its calls.
+// A module has these imports, and exports these names beside its calls.
 const MODULES = {
     'the module': [load('proved_argon2'), [], 'memory memory'],
     'the shared module': [load('proved_argon2_shared'), ['memory env.memory'], 'global __stack_pointer'],
@@ -95,7 +95,7 @@ async function answersOddSettings(module) {
         take('encode', input, settings, tag, text);
         memory.call('memory_len', settings);
         ODD.forEach((odd) => memory.call('encoded_len', settings, odd));
-        // (a hash of so many passes would not end)
+        // A hash of so many passes would not end.
         if (numbers[3] <= 8) take('hash_over', ...inputs, settings, blocks, tag);
     }
     answers.has(0, 1, 11, 13, 15, 16, 17, 18, 65, 72);

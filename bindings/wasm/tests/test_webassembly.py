@@ -20,7 +20,7 @@ pytestmark = needs("node", "wasm2wat")
 
 @pytest.fixture(scope="module")
 def modules():
-    """The folder with both modules, as built here."""
+    """Returns the folder with both modules, as built here."""
     run("build/make", "wasm32", timeout=4800)
     return TOP / "bindings/out/wasm32"
 

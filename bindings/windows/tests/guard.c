@@ -1,6 +1,6 @@
-/* Whether the proved calls extend a stack page by page. Windows requires this: below the touched pages it has one guard
- * page, and no more pages. The test runs on Linux with such a stack, since the machine code is the same. Needs GNU
- * C. */
+/* Checks that the proved calls extend a stack page by page. Windows requires this: below the touched pages it has one
+ * guard page, and no more pages. The test runs on Linux with such a stack, since the machine code is the same. Needs
+ * GNU C. */
 #include "checks.h"
 
 #include <pthread.h>

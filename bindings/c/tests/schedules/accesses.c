@@ -3,10 +3,10 @@
  * consistent. */
 #include "accesses.h"
 
-/* (gcc declares these functions itself, with other types) */
+/* gcc declares these functions itself, with other types. */
 #pragma GCC diagnostic ignored "-Wbuiltin-declaration-mismatch"
 
-/* (is called before main) */
+/* This is called before main. */
 void __tsan_init(void)
 {
 }

@@ -1,4 +1,4 @@
-/* What explore_schedules.c does when the driver accesses memory (accesses.c). */
+/* explore_schedules.c does this when the driver accesses memory (accesses.c). */
 #ifndef ACCESSES_H
 #define ACCESSES_H
 
@@ -12,7 +12,7 @@ void access_bytes(const void *at, size_t len);
 /* The same, and another thread may run first. */
 void access_atomically(const void *at, size_t len);
 
-/* Whether a weak exchange fails spuriously: at most one does in a run. */
+/* Returns whether a weak exchange fails spuriously: at most one does in a run. */
 bool fails_spuriously(void);
 
 #endif

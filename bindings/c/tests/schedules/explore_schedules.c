@@ -116,7 +116,7 @@ static uint32_t current;
 static void (*member_runs)(void *arg, team *own, uint32_t number);
 static void *member_arg;
 
-/* (the first thread is the caller's, over the stack of this process) */
+/* The first thread is the caller's, over the stack of this process. */
 static const void *bottom_of_caller;
 static size_t size_of_caller;
 
@@ -164,7 +164,7 @@ static bool is_at_work(void)
     return model.call != NULL && model.call->workers != NULL;
 }
 
-/* Whether Threads.antt covers what happens: it has no forked children. */
+/* Returns whether Threads.antt covers the run: it has no forked children. */
 static bool has_places(void)
 {
     return is_at_work() && !run.is_forked;
@@ -442,7 +442,7 @@ void *__wrap_calloc(size_t count, size_t len)
     return fails(PROVED_ARGON2_OUT_OF_MEMORY) ? NULL : take(__real_calloc(count, len), count * len, kind);
 }
 
-/* (workers are freed before bytes are) */
+/* Workers are freed before bytes are. */
 void __wrap_free(void *at)
 {
     const bool are_workers = run.taken[run.count - 1].kind == WORKERS && run.taken[run.count - 1].is_live;

@@ -11,7 +11,7 @@ import re
 
 TOKEN = re.compile(r'[()→×⊎≡≢≤<+*:]|[^\s()]+')
 RELATIONS = {'≡': '==', '≢': '!=', '<': '<', '≤': '<='}
-# What the fields of the state and of the work are in C. {0} is the first argument.
+# The fields of the state and of the work, and what C has in their place. {0} is the first argument.
 TEAM = {
     'step': 'model.step', 'is_over': 'model.is_over', 'woken': 'model.woken[{0}]', 'entered': 'model.entered[{0}]',
     'state': 'model.state[{0}]', 'code': 'model.call->workers[{0}].code', 'memory': '0', 'claimed': '0',
@@ -42,7 +42,7 @@ class Reader:
         self.tokens, self.known, self.names = TOKEN.findall(text), known, dict(names)
 
     def next_is(self, *tokens):
-        """Whether one of these tokens comes next."""
+        """Returns whether one of these tokens comes next."""
         return bool(self.tokens) and self.tokens[0] in tokens
 
     def implied(self):
@@ -67,7 +67,7 @@ class Reader:
         found = self.joined(level + 1)
         while self.next_is(*levels[level]):
             sign, other = levels[level][self.tokens[0]], self.after(lambda: self.joined(level + 1))
-            # (natural numbers end at 0)
+            # Natural numbers end at 0.
             found = f'({found} > {other} ? {found} - {other} : 0)' if sign == '-' else f'({found} {sign} {other})'
         return found
 
@@ -92,7 +92,7 @@ class Reader:
 
 
 def definitions(text):
-    """The parameters and the body of each definition: a record is all of its fields."""
+    """Returns the parameters and the body of each definition: a record is all of its fields."""
     plain = re.findall(r'^abbrev pub (\w+) : .*\n\1 (.*?) = (.*)$', text, re.M)
     records = re.findall(r'^pub record (\w+) (.*) : Type 0 where\n((?:  pub .*\n)+)', text, re.M)
     found = {name: (parameters.split(), body) for name, parameters, body in plain}
@@ -104,7 +104,7 @@ def definitions(text):
 
 
 def cases(name, text):
-    """The move, its numbers and the body of each line that defines this function of a state and a move."""
+    """Returns the move, its numbers and the body of each line that defines this function of a state and a move."""
     found = re.findall(rf'^{name} w (?:members is_long )?s \(?(\w+)([^=)]*)\)? = (.*)$', text, re.M)
     return [(move, parameters.split(), body) for move, parameters, body in found]
 
@@ -115,7 +115,7 @@ def function(kind, name, numbers, body):
 
 
 def change(body, known, numbers):
-    """What a move changes of the places and wakes: a call in C, or nothing."""
+    """Returns the call in C that changes places and wakes as a move does, or nothing."""
     found = re.search(r'(goes|wakes_for|waits_for) w members is_long s (.*)', body)
     if not found:
         return ''
@@ -126,7 +126,7 @@ def change(body, known, numbers):
 
 
 def moves(text):
-    """The functions in C."""
+    """Returns the functions in C."""
     text = re.sub(r'\n {4,}', ' ', text)  # (a line that is indented further continues the one before)
     known, functions = definitions(text), ['#pragma GCC diagnostic ignored "-Wunused-parameter"']
     for move, numbers, body in cases('Can', text):

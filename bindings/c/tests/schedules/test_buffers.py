@@ -13,7 +13,7 @@ HERE = Path(__file__).resolve().parent
 BUFFERS = (TOP / 'bindings/c/src/proved_argon2_buffers.c').read_text(encoding='utf-8')
 COMPILER = ('gcc', '-std=c11', '-O1', '-g', '-fno-sanitize-recover=all', '-Wall', '-Wextra', '-Werror',
             '-I', TOP / 'bindings/c/include', '-I', TOP / 'bindings/c/src')
-# (calls accesses.c for each access of memory)
+# This calls accesses.c for each access of memory.
 WATCHED = '-fsanitize=thread,undefined', '--param=tsan-instrument-func-entry-exit=0'
 # By callers, calls of each, buffers, and switches without need: how many runs there are.
 RUNS = {(1, 2, 1, 0): 13, (2, 2, 1, 3): 6413, (2, 2, 2, 3): 47287, (3, 1, 1, 3): 17736, (3, 1, 2, 3): 143366,
@@ -49,7 +49,7 @@ FAULTS = {
 
 
 def program_over(text, folder):
-    """The path of a program that explores this text."""
+    """Returns the path of a program that explores this text."""
     made = []
     (folder / 'buffers.c').write_text(text, encoding='utf-8')
     own = [(HERE / f'{name}.c', ()) for name in ('explore_buffers', 'accesses', 'choices')]
@@ -61,7 +61,7 @@ def program_over(text, folder):
 
 
 def said_by(program, case):
-    """The status of a case, and what is said of it."""
+    """Returns the status of a case, and what is said of it."""
     done = subprocess.run([program, *map(str, case)], capture_output=True, text=True, check=False)
     return done.returncode, done.stdout.strip() or done.stderr.strip()[-2000:]
 

@@ -66,7 +66,7 @@ NARROWER = {
 
 
 def moves_of(model):
-    """The names of the moves of a model, by its definition."""
+    """Returns the names of the moves of a model, by its definition."""
     data = re.search(r'^pub data Move .*\n((?: .*\n)+)', MODELS[model], re.MULTILINE)[1]
     return re.findall(r'^ +([A-Z]\w*) :', data, re.MULTILINE)
 
@@ -78,7 +78,8 @@ def compiled(source, made, *flags):
 
 @pytest.fixture(scope='module')
 def program_over(tmp_path_factory):
-    """A function that builds the program over a driver and models with some texts, and returns the program's path."""
+    """Returns a function that builds the program over a driver and models with some texts, and returns the program's
+    path."""
     shared = [compiled(HERE / f'{name}.c', tmp_path_factory.mktemp('made') / f'{name}.o', SANITIZED)
               for name in ('accesses', 'choices')]
 
@@ -102,7 +103,7 @@ def program_over(tmp_path_factory):
 
 
 def said_by(program, case):
-    """The status of a case, and what is said of it."""
+    """Returns the status of a case, and what is said of it."""
     words = [str(number) for number in (*case, SWITCHES[case[1:]])]
     done = subprocess.run([program, *words], capture_output=True, text=True, check=False)
     return done.returncode, (done.stdout.strip() or done.stderr.strip()[-2000:])
@@ -150,7 +151,7 @@ def test_each_fault_is_found(found, name):
 
 @pytest.mark.parametrize(('model', 'move'), NARROWER)
 def test_a_narrower_model_is_noticed(program_over, model, move):
-    """What allows a move is read from the model: if it allows the move less often, some run makes it against that."""
+    """The conditions of moves are read from the model. If one allows a move less often, some run breaks it."""
     piece, narrower = NARROWER[model, move]
     assert MODELS[model].count(piece) == 1, 'it cannot be narrowed'
     _, said = said_by(program_over(DRIVER, **{model: MODELS[model].replace(piece, narrower)}), (2, 2, 1))

@@ -30,8 +30,8 @@ static struct {
     } fields[FIELDS];
 } question;
 
-/* How many reports there were, how often the caller's functions were called, the code, whether it is undefined, what
-   was written, and which of its bits are undefined. */
+/* This counts the reports and the calls of the caller's functions. Then it has the code, whether that is undefined,
+   what was written, and which of its bits are undefined. */
 static struct {
     uint32_t reports, calls_back, code, undefined;
     uint8_t out[CAPACITY], bits[CAPACITY];

@@ -32,7 +32,7 @@ RUN = 128  # blocks of a segment that are filled at a time
 OF_A_TEXT = 4  # reports: of two branches, in each of two calls (check_encoded and job_read)
 CAPACITY = 4096
 ASKED, ANSWERED = struct.Struct('<9I' + f'I{CAPACITY}s' * 5), struct.Struct(f'<4I{CAPACITY}s{CAPACITY}s')
-# What calls.c answers.
+# An answer of calls.c.
 Answer = namedtuple('Answer', 'reports calls_back code undefined out bits')
 
 
@@ -55,7 +55,7 @@ class Vector(NamedTuple):
                        self.tag.hex()).encode()
 
     def head(self):
-        """Its text up to its hash."""
+        """Returns its text up to its hash."""
         return self._replace(tag=b'').text()
 
     def blocks(self):
@@ -69,8 +69,8 @@ class Vector(NamedTuple):
         return 4 * slices * self.passes - others[self.variant]
 
     def expected(self):
-        """How many of these references are told beforehand if one call fills all lanes: in lanes that are filled two
-        by turns, all except the first of each run of 128 blocks."""
+        """Returns how many of these references are told beforehand if one call fills all lanes: in lanes that are
+        filled two by turns, all except the first of each run of 128 blocks."""
         length = self.memory // (4 * self.lanes)
         told = length - -(-length // RUN)
         slices = 4 * self.passes, 0, 4 * self.passes - 2
@@ -124,7 +124,7 @@ def answers(said):
 
 
 def of_libargon2(vector, salt):
-    """The text that libargon2 writes with this base64 salt, which password_hash may have drawn."""
+    """Returns the text that libargon2 writes with this base64 salt, which password_hash may have drawn."""
     return hash_secret(vector.password, base64.b64decode(salt + b'=='), vector.passes, vector.memory, vector.lanes,
                        vector.length, Type(vector.variant), vector.version)
 
@@ -157,7 +157,7 @@ def verdicts(vector):
 
 
 def stored(text):
-    """A text without its version, as hashes of version 16 may also be stored."""
+    """Returns a text without its version, as hashes of version 16 may also be stored."""
     return text.replace(b'$v=16', b'')
 
 
@@ -183,7 +183,7 @@ def verdicts_on_others(text_and_code):
 
 
 def passwords(vector):
-    """A text that is written for a password alone, and a verdict on one of libargon2's."""
+    """Returns a text that is written for a password alone, and a verdict on one of libargon2's."""
     text = of_libargon2(vector, vector.text().split(b'$')[4])
     return [Question(PASSWORD_HASH, vector, open=len(vector.head())),
             Question(PASSWORD_VERIFY, vector, verified=text, open=len(text))]
@@ -196,15 +196,15 @@ def rows_of(name):
 
 
 def vectors_of(variant, version):
-    """The vectors of a variant and a version that have a password or a secret. Each line is `VARIANT VERSION T M P LEN
-    PASSWORD SALT SECRET DATA TAG`."""
+    """Returns the vectors of a variant and a version that have a password or a secret. Each line is `VARIANT VERSION T
+    M P LEN PASSWORD SALT SECRET DATA TAG`."""
     return [Vector(VARIANTS.index(variant), *map(int, row[1:6]), *(bytes.fromhex(word.strip('-')) for word in row[6:]))
             for row in rows_of('raw.txt')
             if row[:2] == [variant, str(version)] and len(row) == 11 and (row[6], row[8]) != ('-', '-')]
 
 
 def texts_of(variant):
-    """The stored texts of a variant, each with its verdict on `password`."""
+    """Returns the stored texts of a variant, each with its verdict on `password`."""
     return [(row[0].encode(), OK if row[1] == 'true' else MISMATCH) for row in rows_of('texts.txt')
             if row[0].lower().startswith(f'${variant}$') and row[1:2] in (['true'], ['false'])]
 
@@ -215,7 +215,8 @@ def has_threads(vector):
 
 
 def chosen(found, options):
-    """Vectors that write few blocks, and one whose memory the library maps. With THREADS: all that start threads."""
+    """Returns vectors that write few blocks, and one whose memory the library maps. With THREADS: all that start
+    threads."""
     if options == THREADS:
         return [*filter(has_threads, found)]
     few = [vector for vector in found if vector.blocks() <= FEW_BLOCKS]
@@ -223,7 +224,7 @@ def chosen(found, options):
 
 
 def asked(case, options, variant, version):
-    """The questions of a case, vector by vector."""
+    """Returns the questions of a case, vector by vector."""
     if case == passwords:  # (of the settings of password_hash, proved_argon2_owasp2)
         found = [Vector(VARIANTS.index(variant), version, 2, 19456, 1, 32, b'a password', b'of sixteen bytes')]
     elif case == verdicts_on_others:

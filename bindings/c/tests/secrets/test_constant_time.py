@@ -51,7 +51,7 @@ LEAKS = {
                      'for (size_t i = 0; hash && i < call->job.hash_length && hash[i] == tag[i]; i++)'),
                     (of.verdicts, of.FRESH, 'argon2i')),
 }
-# How memcheck heads its reports, each place with how often it was met; a thread may be named in between.
+# memcheck heads its reports with these words, and each place with how often it was met. It may name a thread between.
 BRANCH, ADDRESS = 'Conditional jump or move depends on uninitialised value(s)', 'Use of uninitialised value of size 8'
 PLACE = re.compile(r'^==\d+== (\d+) errors in context .*\n(?:==\d+== Thread \d+:\n)?==\d+== (.*)$', re.M)
 MEMCHECK = ['valgrind', *'-v --error-limit=no --default-suppressions=no --num-callers=1 --leak-check=no --vgdb=no '
@@ -59,7 +59,7 @@ MEMCHECK = ['valgrind', *'-v --error-limit=no --default-suppressions=no --num-ca
 
 
 def planted(leak, folder, objects):
-    """The objects with a leak: in both builds, in the driver, or in none."""
+    """Returns the objects with a leak: in both builds, in the driver, or in none."""
     others = {f'proved_argon2_{cpu}.o': folder / f'{cpu}.{leak}.o' for cpu in READS if leak in plant_leak.LEAKS}
     for file, other in others.items():
         plant_leak.main(objects[file], leak, other)
@@ -72,7 +72,7 @@ def planted(leak, folder, objects):
 
 
 def reading(objects, code):
-    """The objects, in which a block that is prefetched is read."""
+    """Returns the objects, in which a block that is prefetched is read."""
     code.write_bytes(READS_A_WORD)
     for cpu in READS:
         plant_leak.run('objcopy', '--update-section', f'{EXPECT}={code}', objects[f'proved_argon2_{cpu}.o'])
@@ -81,7 +81,7 @@ def reading(objects, code):
 
 @pytest.fixture(scope='module')
 def came(request, tmp_path_factory):
-    """The result of each row, by calls.c with the row's leak."""
+    """Yields the result of each row, by calls.c with the row's leak."""
     folder = tmp_path_factory.mktemp('made')
     objects = reading(library(folder / 'objects'), folder / 'reads')
     programs = {leak: compiled(folder / f'calls-{number}', CALLS, *planted(leak, folder, objects).values())
@@ -105,7 +105,7 @@ class Came:
         self.is_ended = ran.returncode == 0 and len(answers) == len(questions) > 0
         self.wrong = [answer[:4] for question, answer in zip(questions, answers)
                       if not question.is_right(answer, *READS[cpu])]
-        # (each reference is found and read by addresses at READS places, once at each)
+        # Each reference is found and read by addresses at READS places, once at each.
         numbers = (sum(one.references() for one in questions), sum(one.expected() for one in questions))
         addresses = [number for number, places in zip(numbers, READS[cpu]) if number for _ in range(places)]
         self.is_right = (self.is_ended and not self.wrong and self.places.keys() <= {BRANCH, ADDRESS}

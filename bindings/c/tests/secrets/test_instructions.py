@@ -51,7 +51,7 @@ PRODUCT = re.compile('v?pmuludq|um(ull|lal)2?')
 # the lane that a word selects, which the next reference's address reveals anyhow.
 DIVIDING = {'accepted_context': 1, 'proved_argon2_memory_len': 1, 'fill_independent': 2, 'fill_dependent': 1,
             'expect_dependent': 1}
-# What ends a generic function's name. How the names of a build's calls begin in the archive, which has all builds.
+# A generic function's name ends like this. A build's calls begin like this in the archive, which has all builds.
 GENERIC = re.compile(r'::<#\w+>$')
 OF_BUILD = re.compile(r'^proved_(?:x86_64_v\d|armv8_a(?:_neon)?)_')
 # Secrets: for calls that hash, the password and the key; for calls that verify, the bits in which a hash is wrong.
@@ -95,8 +95,8 @@ def test_instructions(tmp_path, cpu):
 
 @pytest.fixture(scope='module', name='arm64', params=machines()['aarch64'].builds)
 def fixture_arm64(request, tmp_path_factory):
-    """The object of a build, and calls.c over it, at fixed addresses, so that traces can be compared; and both with a
-    division behind a branch."""
+    """Returns the object of a build, and calls.c over it, at fixed addresses, so that traces can be compared; and both
+    with a division behind a branch."""
     if lacking := [program for program in (QEMU, f'{PREFIX}gcc') if not shutil.which(program)]:
         pytest.skip(f'there is no {lacking[0]}')
     built = Path(run(TOP / 'build/prepare', 'aarch64').strip())
@@ -109,7 +109,8 @@ def fixture_arm64(request, tmp_path_factory):
 
 
 def trace(over, call, variant, secret):
-    """A hash of the addresses of the instructions that a call over a secret takes. Its result code has to be right."""
+    """Returns a hash of the addresses of the instructions that a call over a secret takes. Its result code has to be
+    right."""
     _, program, build = over
     vector = of.Vector(variant, version=19, passes=1, memory=16, lanes=2, length=16, password=bytes(16), salt=bytes(16))
     tag = bytes(one ^ other for one, other in zip(rfc9106.Setting(*vector[:-1]).tag(), secret))
@@ -156,8 +157,8 @@ def taken_by(function, line):
 
 
 def counts(variant, length):
-    """The instructions of hashing, for each secret and a longer one; and of verifying, for the first secret's tag and
-    hashes that differ from it in the first byte, the last one, or all."""
+    """Returns the instructions of hashing, for each secret and a longer one; and of verifying, for the first secret's
+    tag and hashes that differ from it in the first byte, the last one, or all."""
     words = [f'{variant} 19 2 64 2 {length} seq {secret.hex()} {b"some-salt".hex()} {secret.hex()} -'
              for secret in (*SECRETS, LONGER)]
     *hashing, longer = [taken_by(HASHES, f'hash_raw {line}') for line in words]

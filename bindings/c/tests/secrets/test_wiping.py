@@ -31,27 +31,27 @@ from running import rows as rows_of
 from toolchain import is_current
 
 BUILDS = machines()['x86_64'].proved
-# How long a run may take, and numbers of search.c: bytes of a piece, most pieces, and most places.
+# A run may take this long. search.c has the other numbers: bytes of a piece, most pieces, and most places.
 SECONDS, PIECE, PIECES, PLACES = 600, 16, 512, 1024
 # The calls, jumps and returns in machine code: the place, and the function that they lead to, without its types.
 BRANCH = re.compile(r'^ +([0-9a-f]+):\t(call|jmp|ret)(?:[^<\n]*<([^+\n]*?)(?:::<[^+\n]*)?>$)?', re.M)
-# What overwrites; what computes over a memory; and what ends a call that has its own memory.
+# These functions overwrite; the next compute over a memory; and the last end a call that has its own memory.
 OVERWRITING = ('argon2_blocks::blake2b::wipe', 'argon2_fill::stack_wiping::wipe_stack', 'proved_driver_overwrite',
                'clear_stack')
 COMPUTING, ENDING = r'argon2::(hashing|verifying)::(texts::)?\w+_in(_sequential)?', 'argon2::ending::release'
 # A function that must leave nothing when it returns: if it leaves something for some lanes, no other check sees it.
 CLEAN = 'argon2_fill::fill::write_first_block'
-# What calls are passed and write, which may be anywhere; and what they may leave on the stack if nothing clears it.
+# Calls are passed or write the first two, which may be anywhere. They may leave all on the stack if nothing clears it.
 OF_CALLER = ('the tag', 'the password')
 MAY_BE_LEFT = ('H0', *OF_CALLER)
 # TRIES: how often a program with threads is run, since a worker that takes no lane leaves nothing, and hides what
 # others left. LOOKS: how often all is repeated if a count differs, since some pieces stay in memory only by chance.
 TRIES, LOOKS = 9, 6
-# What tests/clearing.c is linked with. Where names are bound late, the loader leaves registers on the stack, and only
+# tests/clearing.c is linked with these. Since names are bound late, the loader leaves registers on the stack, and only
 # the driver clears them.
 WRAPPED = {'getrandom', *re.findall(r'__wrap_(\w+)', (FACE / 'tests/system.h').read_text(encoding='utf-8'))}
 LINKED = (FACE / 'tests/clearing.c', *(f'-Wl,--wrap={name}' for name in WRAPPED), '-Wl,-z,lazy', '-largon2')
-# What is hashed: a password that fills the last block of H0's input, with a salt of nine bytes; and a password longer
+# OURS has a password that fills the last block of H0's input, and a salt of nine bytes. LONG has a password longer
 # than those of other tests, since a call could end differently for it.
 OURS = of.Vector(rfc9106.ID, 19, 2, 64, 4, 32, (b'the-password-that-is-sought,-' * 8)[:207], b'some-salt')
 LONG = OURS._replace(password=(b'the-password-that-is-sought,-' * 140)[:207 + 29 * 128])
@@ -96,7 +96,7 @@ def parts(vector):
         yield 'what a first block is hashed from', setting.h0[-8:] + place, (0,)
         yield 'a first block', first, (0, 480, 800)
         yield 'the last hashes of its chain', first, (896, 928, 960, 992)
-    # (with one lane, it is in the matrix)
+    # With one lane, it is in the matrix.
     yield 'the combined last blocks', combined, (0, 512, 1000) if setting.lanes > 1 else ()
     yield 'the tag', tag, range(0, len(tag) - 15, PIECE)
     yield 'the password', setting.password, range(0, len(setting.password) - PIECE, PIECE)
@@ -104,7 +104,7 @@ def parts(vector):
 
 @cache
 def blocks_of(vector):
-    """Two words of one block of each segment: what we search for after a call that must leave no block."""
+    """Returns two words of one block of each segment: what we search for after a call that must leave no block."""
     setting = rfc9106.Setting(*vector[:-1])
     return [(f'lane {lane}, slice {column // setting.segment}', struct.pack('<2Q', *words[40:42]))
             for (lane, column), words in setting.filled().items() if column % setting.segment == setting.segment - 1]
@@ -147,7 +147,8 @@ class Program:
 
     @contextmanager
     def planned(self, dropped=(), stops=(), sought=()):
-        """The command that runs the program by a plan of search.c, with its stack at the same place each time."""
+        """Yields the command that runs the program by a plan of search.c, with its stack at the same place each
+        time."""
         with tempfile.NamedTemporaryFile(dir=self.preloaded.parent) as plan:
             assert len(sought) <= PIECES
             plan.write(struct.pack('<I', len(sought)))
@@ -162,7 +163,7 @@ class Program:
         stops, and below each stop, by its function."""
         where = ['left', 'freed', 'above', *(function for function, _ in stops)]
         for number, one_run in enumerate(runs):
-            # (with threads, the counts of the tag and the password differ between runs)
+            # With threads, the counts of the tag and the password differ between runs.
             sought = [piece for piece in one_run.sought if not one_run.has_threads or piece[0] not in OF_CALLER]
             with self.planned(dropped, stops, sought) as command:
                 done = subprocess.run([*command, *one_run.words], input=one_run.input, capture_output=True,
@@ -175,7 +176,8 @@ class Program:
             yield from found.items()
 
     def noticed(self, sites, runs, others, stops):
-        """Each of `sites`, and whether its absence is noticed if it alone is left out in addition to `others`."""
+        """Returns each of `sites`, and whether its absence is noticed if it alone is left out in addition to
+        `others`."""
         runs = sorted(runs, key=lambda one_run: not one_run.has_threads)
         tries = [runs] + [[one_run for one_run in runs if one_run.has_threads]] * (TRIES - 1)
         before = dict(self.found(runs, others, stops))
@@ -188,7 +190,8 @@ class Program:
         return [*zip(sites, pool.map(is_noticed, sites))]
 
     def each_left_out(self):
-        """Each call, and whether its absence is noticed: for a call of the driver, by a check of tests/clearing.c."""
+        """Returns each call, and whether its absence is noticed: for a call of the driver, by a check of
+        tests/clearing.c."""
         if self.runs is None:
             sites = [site for site in self.sites if not site.callee.startswith('wipe')]
             return [*zip(sites, pool.map(self.fails, sites))]
@@ -220,7 +223,7 @@ def runs_of_library():
 
 
 def judge_library(program):
-    """After each call that computes, the stack has nothing, or if it is not cleared, only what may be left there."""
+    """The stack has nothing after each call that computes or, if it is not cleared, only what may be left there."""
     stacks = program.calls('wipe_stack')
     computing = {site.function for site in stacks}
     assert len(computing) > 9
@@ -233,7 +236,7 @@ def judge_library(program):
 # ---- Rattle's calls
 
 def row(call, vector, mode, *more):
-    """A row of the program that makes any call."""
+    """Returns a row of the program that makes any call."""
     settings = f'argon2id 19 {vector.passes} {vector.memory} {vector.lanes} {vector.length}'
     inputs = f"'{vector.password.decode()} '{vector.salt.decode()} - -"
     return ' '.join([call, settings, mode, inputs, *more]) + '\n'
@@ -260,7 +263,7 @@ def rows_of_a_long_password():
 
 
 def runs_of_tests():
-    """In the tests of calls in one thread, blocks are freed without being overwritten, since that would take time."""
+    """The tests of calls in one thread free blocks without overwriting them, since that would take time."""
     names = TESTS.findall(run(program_of('argon2_tests'), '--list'))
     assert len(names) == COUNT_OF_TESTS
     for name in names:

@@ -35,7 +35,7 @@ const HASH: &[u8] = b"hash";
 const KEY: &[u8] = b"key";
 const DATA: &[u8] = b"data";
 
-/// What a call returns: it allocates its own memory, computes in a buffer, or is made by a `Run`.
+/// Returns the result of a call, which allocates its own memory, computes in a buffer, or is made by a `Run`.
 fn call(name: &str, how: &str, memory: &mut Memory) -> Box<dyn Debug> {
     match (name, how) {
         ("hash_raw", "alone") => Box::new(hash_raw(WORD, SALT, &CONFIG)),

@@ -1,4 +1,4 @@
-//! What calls of the crate leave of a password, and the buffers, places and forked children of a `Line`. The linker
+//! Tests what calls of the crate leave of a password, and buffers, places and forked children of a `Line`. The linker
 //! gives this program the library's call that makes a handle of kept buffers (`--wrap`), and the system's call that
 //! starts a thread. It can deny both, and counts the threads. codes.rs tests when a call allocates a buffer, and the
 //! library's own tests whether a call clears it.
@@ -11,11 +11,11 @@ use std::sync::atomic::{AtomicBool, AtomicI32, AtomicUsize, Ordering::SeqCst};
 use std::thread;
 use std::time::{Duration, Instant};
 
-/// Whether the next handles are denied.
+/// The next handles are denied if this is set.
 static IS_DENIED: AtomicBool = AtomicBool::new(false);
 const OUT_OF_MEMORY: u32 = 20;
 
-/// How many threads were started, whether the next ones are denied, and the error number of that.
+/// Counts the threads that were started, and tells whether the next ones are denied, and with which error number.
 static THREADS: AtomicUsize = AtomicUsize::new(0);
 static ARE_THREADS_DENIED: AtomicBool = AtomicBool::new(false);
 const EAGAIN: i32 = 11;
@@ -65,7 +65,7 @@ fn settings(mem_cost: u32, lanes: u32, thread_mode: ThreadMode) -> Config<'stati
     Config { mem_cost, lanes, time_cost: 1, thread_mode, ..Config::default() }
 }
 
-/// How often the memory that this process may write to contains these bytes. We count in a forked child,
+/// Counts these bytes in the memory that this process may write to. We count in a forked child,
 /// because no other thread can unmap memory there.
 fn occurrences_of(word: &[u8]) -> usize {
     (status_of_child(fork, || count(word) as i32) >> 8) as usize
@@ -171,7 +171,7 @@ fn a_line_starts_a_denied_thread_later() {
     assert_eq!(THREADS.load(SeqCst), before + 1);
 }
 
-/// How a forked child ended that exits with the number that this work returns.
+/// Runs work in a forked child, which exits with the number that it returns. Returns how the child ended.
 fn status_of_child(fork: unsafe extern "C" fn() -> i32, work: impl FnOnce() -> i32) -> i32 {
     let mut status = -1;
     unsafe {

@@ -27,7 +27,7 @@ fn older(password: &[u8]) -> String {
     argon2::hash_password_with(password, &config).unwrap()
 }
 
-/// How many logins were accepted, rejected and told to try again.
+/// Counts the logins that were accepted, rejected and told to try again.
 type Seen = [AtomicUsize; 3];
 
 fn logs_in_once(line: &argon2::Line, stored: &str, turn: usize, seen: &Seen) {

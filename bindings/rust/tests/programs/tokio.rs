@@ -10,7 +10,7 @@ use tokio::time::timeout;
 
 const PLACES: usize = 2;
 
-/// How many hashes are computed now, and were at most.
+/// The number of hashes that are computed now, and the most so far.
 static RUNNING: AtomicUsize = AtomicUsize::new(0);
 static MOST: AtomicUsize = AtomicUsize::new(0);
 

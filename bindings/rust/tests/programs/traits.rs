@@ -70,7 +70,7 @@ fn rejects_what_is_wrong() {
     }
 }
 
-/// What docs/RUST.md lists as different.
+/// Checks the differences that docs/RUST.md lists.
 fn differs() {
     let costly = Argon2::from(Params::new(8, 1000, 1, None).unwrap());
     let stored = costly.hash_password(b"password", &SaltString::generate(&mut OsRng)).unwrap().to_string();

@@ -71,7 +71,7 @@ fn rejects_what_is_wrong() {
     assert_eq!(hashed(&[0; 16], 65), Err(Error::OutputSize));
 }
 
-/// What RustCrypto's crate accepts, or reads as another version.
+/// Checks strings that RustCrypto's crate accepts, or reads as another version.
 fn differs() {
     let costly = Argon2::from(Config { mem_cost: 8, time_cost: 1000, ..Config::default() });
     let stored = costly.hash_password(b"password").unwrap().to_string();

@@ -12,7 +12,7 @@ import java.util.stream.Stream;
 import org.junit.jupiter.api.*;
 import proved.argon2.Argon2Exception.Reason;
 
-/** What calls return for each number of the library, over a stub that returns the numbers set here. */
+/** Calls return the right value for each number of the library. A stub returns the numbers set here. */
 @Tag("codes")
 class CodesTest {
     private static final byte[] PASSWORD = bytes("word");
@@ -29,7 +29,7 @@ class CodesTest {
 
     private static native void set(int check, int then, int read);
 
-    /** What the last call was passed. */
+    /** {@return the arguments of the last call} */
     private static native String seen();
 
     /** Sets each number, and expects its value, as in {@code 0=true 64=false}, or else its error. */
@@ -97,7 +97,7 @@ class CodesTest {
         assertTrue(seen().endsWith("|unknown word key 2 19 64 3 4 5"), seen());
     }
 
-    /** (it saw the number of threads, the length of the buffers or -1, and what a callback said or -1) */
+    /** It saw the number of threads, the length of the buffers or -1, and what a callback said or -1. */
     @Test
     void onlyAThreadOfAQueueHasBuffersAndCanBeStopped() {
         try (HashQueue queue = new HashQueue(1, 0)) {

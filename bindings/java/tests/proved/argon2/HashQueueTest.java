@@ -32,7 +32,7 @@ class HashQueueTest {
         return future.copy().orTimeout(10, TimeUnit.SECONDS).join();
     }
 
-    /** Whether a queue had no place for a call. It says so at once. */
+    /** {@return whether a queue had no place for a call} It says so at once. */
     static boolean isBusy(CompletableFuture<?> future) {
         return future.isCompletedExceptionally() && future.handle(
             (none, error) -> error instanceof Argon2Exception failure && failure.reason() == BUSY).join();
@@ -335,7 +335,7 @@ class HashQueueTest {
         }
     }
 
-    /** (neither before ten seconds are over, nor in a queue that is closed) */
+    /** It does so neither before ten seconds are over, nor in a queue that is closed. */
     @Test
     void anIdleThreadEndsAndFreesItsBuffer() throws InterruptedException, IOException {
         PasswordHasher large = new PasswordHasher(SMALL.withMemory(256 * 1024).withPasses(1));

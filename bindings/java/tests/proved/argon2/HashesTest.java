@@ -31,7 +31,7 @@ class HashesTest {
         return digits.equals("-") ? new byte[0] : HexFormat.of().parseHex(digits);
     }
 
-    /** What a call returns, or its error as the tables have it. */
+    /** {@return the result of a call, or its error as the tables have it} */
     private static String outcome(Supplier<Object> call) {
         try {
             return String.valueOf(call.get());

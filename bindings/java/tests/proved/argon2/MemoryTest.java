@@ -29,7 +29,7 @@ class MemoryTest {
         }
     }
 
-    /** Whether writable memory contains some bytes. Their complement is passed, so that this call adds no copy. */
+    /** {@return whether writable memory contains some bytes} Their complement is passed, so that this adds no copy. */
     private static boolean has(byte[] complement) throws IOException {
         byte[] chunk = new byte[CHUNK + complement.length];
         try (RandomAccessFile memory = new RandomAccessFile("/proc/self/mem", "r")) {
@@ -64,7 +64,7 @@ class MemoryTest {
         return false;
     }
 
-    /** Whether memory has the middle of a password, as bytes or as characters, after a call. */
+    /** {@return whether memory has the middle of a password, as bytes or as characters, after a call} */
     private boolean keeps(Consumer<char[]> call, boolean isCleared) throws IOException {
         System.gc(); // so that the collector does not run meanwhile, and leaves no copies itself
         char[] password = new char[LENGTH];

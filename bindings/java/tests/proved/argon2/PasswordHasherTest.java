@@ -41,7 +41,7 @@ class PasswordHasherTest {
         assertFalse(hasher.verifyUnknown(text.toCharArray()));
     }
 
-    /** (all eight salts have the same byte somewhere only once in 2^52 times) */
+    /** All eight salts have the same byte somewhere only once in 2^52 times. */
     @Test
     void eachByteOfASaltIsRandom() {
         List<byte[]> salts = Stream.generate(() -> hasher.hash(password)).limit(8)
@@ -155,7 +155,7 @@ class PasswordHasherTest {
         assertTrue(Thread.interrupted());
     }
 
-    /** (the salt's length is not that of the settings) */
+    /** The salt's length is not that of the settings. */
     @Test
     void aRawHashHasTheLengthOfTheSettings() {
         byte[] salt = bytes("somesalt");
