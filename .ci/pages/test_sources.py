@@ -66,7 +66,8 @@ def test_the_texts_of_both_licences_are_the_same_wherever_they_are():
 
 def test_each_file_of_an_archive_of_the_sources_has_a_licence(tmp_path, needs):
     needs('reuse')
-    holders = [re.findall(r'^ .*\d{4} .*|^Copyright: .*', read(name), re.M) for name in ('.reuse/dep5', 'debian/copyright')]
+    holders = [re.findall(r'^ .*\d{4} .*|^Copyright: .*', read(name), re.M)
+               for name in ('.reuse/dep5', 'debian/copyright')]
     assert holders[0] == holders[1] != []
     copy = Copy(tmp_path)
     copy.run('git', 'archive', '--prefix=archive/', '--output=archive.tar', copy.run('git', 'write-tree').strip())
