@@ -98,8 +98,9 @@ uint32_t proved_argon2_job_begin(
     const proved_argon2_job *job, uint32_t lane, proved_argon2_block *own, size_t own_len);
 
 /*
- * Fills a lane's segment of a slice in a pass. own is that segment. first, second and third are the other three slices
- * in rising order, each of lanes * segment_length blocks.
+ * Fills a lane's segment of a slice in a pass. own is that segment. If own is instead this segment and that of the next
+ * lane, 2 * segment_length blocks, the call fills both, by turns, which takes less time than two calls. first, second
+ * and third are the other three slices in rising order, each of lanes * segment_length blocks.
  */
 PROVED_ARGON2_CHECKED
 uint32_t proved_argon2_job_fill(

@@ -52,7 +52,7 @@ static struct written {
     proved_argon2_tuning tuning;
     proved_argon2_stored stored;
     proved_argon2_job job;
-    proved_argon2_block own[LENGTH + 2], blocks[4 * SLICE + 2];
+    proved_argon2_block own[3 * LENGTH + 1], blocks[4 * SLICE + 2];
     uint8_t out[TAG + 1], text[TEXT], salt[8], hash[TAG], tag[TAG + 1];
 } written, written_before;
 

@@ -33,7 +33,8 @@ static size_t next_of(const size_t *values, size_t count, size_t *number)
 
 #define NEXT(values, number) next_of(values, sizeof values / sizeof *values, number)
 
-static const size_t of_slice[] = {SLICE, 0, 1, SLICE - 1, SLICE + 1}, of_segment[] = {LENGTH, 0, 1, LENGTH + 1},
+static const size_t of_slice[] = {SLICE, 0, 1, SLICE - 1, SLICE + 1},
+                    of_segment[] = {LENGTH, 0, 1, LENGTH + 1, 2 * LENGTH, 3 * LENGTH},
                     of_memory[] = {4 * SLICE, 0, 1, 4 * SLICE - 1, 4 * SLICE + 1},
                     of_tag[] = {TAG, 0, 1, TAG - 1, TAG + 1}, lanes[] = {0, LANES - 1, LANES, LANES + 1, UINT32_MAX};
 
@@ -49,7 +50,7 @@ static uint32_t expected_of(bool has_place, bool has_blocks, bool has_length)
 static void check_begin(void)
 {
     bool good = true;
-    for (size_t n = 0; n < 5 * 4; n++) {
+    for (size_t n = 0; n < 5 * 6; n++) {
         size_t number = n;
         give_what_fits();
         lane = (uint32_t)NEXT(lanes, &number);
@@ -64,7 +65,7 @@ static void check_fill(size_t step)
 {
     static const size_t passes[] = {0, PASSES - 1, PASSES, UINT32_MAX}, slices[] = {0, 1, 2, 3, 4, 5, UINT32_MAX};
     bool good = true;
-    for (size_t n = 0; n < 4 * 7 * 5 * 5 * 5 * 5 * 4; n += step) {
+    for (size_t n = 0; n < 4 * 7 * 5 * 5 * 5 * 5 * 6; n += step) {
         size_t number = n;
         give_what_fits();
         pass = (uint32_t)NEXT(passes, &number);
@@ -76,9 +77,11 @@ static void check_fill(size_t step)
         arguments[OWN].len = NEXT(of_segment, &number);
         const bool has_blocks = arguments[FIRST].len == SLICE && arguments[SECOND].len == SLICE
             && arguments[THIRD].len == SLICE;
+        const bool are_two = arguments[OWN].len == 2 * LENGTH && lane < LANES - 1;
         good &= answers(job_fill,
-            expected_of(pass < PASSES && slice < 4 && lane < LANES, has_blocks && arguments[OWN].len == LENGTH, true),
-            ITS(own, LENGTH * 1024));
+            expected_of(pass < PASSES && slice < 4 && lane < LANES,
+                has_blocks && (are_two || arguments[OWN].len == LENGTH), true),
+            ITS(own, arguments[OWN].len * 1024));
     }
     check(good, "job_fill at passes, slices and lanes, and with lengths");
 }

@@ -1,5 +1,5 @@
 /*
- * The steps of a hash over caller-provided blocks: tags by lanes in two orders, and the job of an encoded hash.
+ * The steps of a hash over caller-provided blocks: tags by lanes in three orders, and the job of an encoded hash.
  * invalid_steps.c tests numbers, lengths and addresses that do not fit.
  *
  * The tags are those of RFC 9106, section 5, and of the tests of the C reference implementation.
@@ -15,8 +15,9 @@ static const char stored[] = "$argon2i$v=19$m=256,t=2,p=2$c29tZXNhbHQ$T/XOJ2mh1/
 enum { MOST = 256 };
 static proved_argon2_block blocks[MOST];
 
-/* Returns what a step returns for a lane; step 0 begins it, and step n + 1 fills its segment of slice number n. */
-static uint32_t take_step(const proved_argon2_job *job, uint32_t n, uint32_t lane)
+/* Returns what a step returns for a lane, or for two lanes from it on; step 0 begins a lane, and step n + 1 fills slice
+ * number n. */
+static uint32_t take_step(const proved_argon2_job *job, uint32_t n, uint32_t lane, uint32_t lanes)
 {
     const size_t length = job->segment_length, whole = job->lanes * length;
     const uint32_t slice = (n + 3) % 4;
@@ -28,17 +29,21 @@ static uint32_t take_step(const proved_argon2_job *job, uint32_t n, uint32_t lan
         others[i] = blocks + (i < slice ? i : i + 1) * whole;
     }
     return proved_argon2_job_fill(job, (n - 1) / 4, slice, lane, others[0], whole, others[1], whole, others[2], whole,
-        blocks + slice * whole + lane * length, length);
+        blocks + slice * whole + lane * length, lanes * length);
 }
 
-/* All steps in blocks with arbitrary contents, with lanes in rising or falling order. */
-static bool take_steps(const proved_argon2_job *job, bool falls)
+enum order { RISING, FALLING, TWO_AT_A_TIME, ORDERS };
+
+/* All steps in blocks with arbitrary contents. */
+static bool take_steps(const proved_argon2_job *job, enum order order)
 {
     bool good = 4 * (size_t)job->lanes * job->segment_length <= MOST;
     fill_bytes((uint8_t *)blocks, sizeof blocks, 7);
     for (uint32_t n = 0; good && n <= 4 * job->passes; n++) {
-        for (uint32_t i = 0; i < job->lanes; i++) {
-            good &= take_step(job, n, falls ? job->lanes - 1 - i : i) == PROVED_ARGON2_OK;
+        uint32_t lanes = 1;
+        for (uint32_t i = 0; i < job->lanes; i += lanes) {
+            lanes = order == TWO_AT_A_TIME && n > 0 && i + 1 < job->lanes ? 2 : 1;
+            good &= take_step(job, n, order == FALLING ? job->lanes - 1 - i : i, lanes) == PROVED_ARGON2_OK;
         }
     }
     return good;
@@ -114,8 +119,8 @@ static void check_tags(void)
     none.lanes = 0;
     check_code(proved_argon2_job_check(&job), PROVED_ARGON2_OK, "it is a job");
     check_code(proved_argon2_job_check(&none), PROVED_ARGON2_NO_JOB, "a job without lanes is invalid");
-    for (int falls = 0; falls < 2; falls++) {
-        check(take_steps(&job, falls), "its steps");
+    for (int order = 0; order < ORDERS; order++) {
+        check(take_steps(&job, order), "its steps");
         check_code(proved_argon2_job_finish(&job, last, 8, tag, 32), PROVED_ARGON2_OK, "its end");
         check(is_hex(tag, 32, tag_of_rfc), "its tag");
     }
@@ -165,7 +170,7 @@ static void check_text(void)
     for (int wrong = 0; wrong < 2; wrong++) {
         check_code(read_job(stored, strlen(stored), wrong ? "Password" : "password", &job, hash, 32), PROVED_ARGON2_OK,
             "a job of a text");
-        check(take_steps(&job, false), "its steps");
+        check(take_steps(&job, RISING), "its steps");
         check_code(proved_argon2_job_verify(&job, blocks + 192, 64, hash, 32, tag, 32),
             wrong ? PROVED_ARGON2_MISMATCH : PROVED_ARGON2_OK, "its verdict");
     }
@@ -175,5 +180,5 @@ int main(void)
 {
     check_tags();
     check_text();
-    return finish(99);
+    return finish(102);
 }

@@ -1,5 +1,5 @@
 -- What the calls answer, and how a string fills a buffer.
-use Rattle.std.specs.Prelude.{◌≡◌, ℕ, ◌-◌, ◌<◌, ◌≤◌, List, ◌++◌, length, replicate, Result, Ok, Err, Bool, true, false, Option, Some, None}
+use Rattle.std.specs.Prelude.{◌≡◌, ℕ, ◌-◌, List, ◌++◌, length, replicate, Result, Ok, Err, Bool, true, false, Option, Some, None}
 use Rattle.std.specs.Str.{IsAscii}
 use Rattle.argon2_c.specs.declared.errors.CallError.{CallError}
 use Rattle.argon2_c.specs.declared.errors.CallError.TheVariants.{WrongLength, Library, Mismatch, NotAscii}

@@ -1,6 +1,6 @@
 -- What the steps of a hash over caller-provided blocks return. The C driver calls them if it has threads or a
 -- callback. A step checks all numbers that it is given; on an error nothing is written.
-use Rattle.std.specs.Prelude.{◌≡◌, ℕ, ◌-◌, ◌*◌, ◌<◌, List, [], ◌∷◌, length, Option, Some, None, Result, Ok, Err}
+use Rattle.std.specs.Prelude.{◌≡◌, ℕ, suc, ◌-◌, ◌*◌, ◌<◌, List, [], ◌∷◌, length, take, drop, Option, Some, None, Result, Ok, Err}
 use Rattle.argon2_standard.specs.Standard.Setting.{Setting}
 use Rattle.argon2_standard.specs.Standard.Tag.{last_blocks, tag_from}
 use Rattle.argon2_memory.specs.Views.Places.{FillsAmong, HoldsSlice, blocks_of_lane}
@@ -49,6 +49,23 @@ abbrev pub Fills : Option Setting → ℕ → ℕ → ℕ → List (List ℕ) �
     → Result (Unit {0}) CallError → Type 0
 Fills None pass slice lane first second third old new answer = (answer ≡ Err NoJob) × (new ≡ old)
 Fills (Some s) pass slice lane first second third old new answer = FillsAt s pass slice lane first second third old new answer
+
+-- the segments of a lane and of the next one, one behind the other
+pub record AreTwo (s : Setting) (lane : ℕ) (segments : List (List ℕ)) : Type 0 where
+  pub next_fits : suc lane < s.lanes
+  pub long : length segments ≡ 2 * s.segment_length
+
+-- one lane's segment is filled, or of two segments each, and both with the same result
+pub record FillsLanesAt (s : Setting) (pass slice lane : ℕ) (first second third old new : List (List ℕ)) (answer : Result (Unit {0}) CallError) : Type 0 where
+  pub one : (AreTwo s lane old → ⊥) → FillsAt s pass slice lane first second third old new answer
+  pub two : AreTwo s lane old
+      → FillsAt s pass slice lane first second third (take s.segment_length old) (take s.segment_length new) answer
+      × FillsAt s pass slice (suc lane) first second third (drop s.segment_length old) (drop s.segment_length new) answer
+
+abbrev pub FillsLanes : Option Setting → ℕ → ℕ → ℕ → List (List ℕ) → List (List ℕ) → List (List ℕ) → List (List ℕ) → List (List ℕ)
+    → Result (Unit {0}) CallError → Type 0
+FillsLanes None pass slice lane first second third old new answer = (answer ≡ Err NoJob) × (new ≡ old)
+FillsLanes (Some s) pass slice lane first second third old new answer = FillsLanesAt s pass slice lane first second third old new answer
 
 -- ---- the end
 

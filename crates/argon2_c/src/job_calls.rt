@@ -5,7 +5,7 @@ ghost use Rattle.std.specs.Prelude.{◌≡◌, ℕ, List, []};
 ghost use Rattle.std.specs.Borrow.{Bor};
 ghost use Rattle.argon2_c.specs.Checks.{ChecksJob};
 ghost use Rattle.argon2_c.specs.Jobs.{MakesJob, MakesStoredJob, WritesTagText, setting_of_job};
-ghost use Rattle.argon2_c.specs.Steps.{Begins, Fills, Finishes, Verifies};
+ghost use Rattle.argon2_c.specs.Steps.{Begins, FillsLanes, Finishes, Verifies};
 ghost use Rattle.argon2_c.specs.CallerBlocks.{HashesJob, JudgesJob};
 ghost use Rattle.argon2_c.specs.Driver.{EveryTeamGivesTheTag, EveryTeamGivesTheVerdict};
 ghost use Rattle.argon2_c.specs.Driver.{NoThreadWorksAfterTheEnd, EveryJobCanBeFilled, EveryCallReturns};
@@ -72,8 +72,8 @@ pub extern "C" fn proved_argon2_job_begin(job: &CallerJob, lane: u32, own: &mut 
     cleared(code_of(&steps::begin(job, lane, own)))
 }
 
-/// Fills a lane's segment of a slice in a pass. `first`, `second` and `third` are the other three
-/// slices in rising order.
+/// Fills a lane's segment of a slice in a pass, or the segments of a lane and of the next one, by
+/// turns. `first`, `second` and `third` are the other three slices in rising order.
 #[unsafe(no_mangle)]
 pub extern "C" fn proved_argon2_job_fill(
     job: &CallerJob,
@@ -85,7 +85,7 @@ pub extern "C" fn proved_argon2_job_fill(
     third: &[Block],
     own: &mut [Block],
 ) -> u32
-    ensures { IsCodeOf (Fills (setting_of_job job.now) pass slice lane first.now second.now
+    ensures { IsCodeOf (FillsLanes (setting_of_job job.now) pass slice lane first.now second.now
         third.now own.old own.new) result }
 {
     cleared(code_of(&steps::fill(job, pass, slice, lane, first, second, third, own)))

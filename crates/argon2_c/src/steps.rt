@@ -1,21 +1,21 @@
 //! The steps of a hash over caller-provided blocks. Each checks its arguments itself: C may take
 //! the steps in any order, with any numbers and lengths, so none trusts that another was taken.
 
-ghost use Rattle.std.specs.Prelude.{◌≡◌, ◌*◌, IsTrue, ◌↔◌, MatchResult, length};
+ghost use Rattle.std.specs.Prelude.{◌≡◌, ◌*◌, ◌<◌, IsTrue, ◌↔◌, MatchResult, length};
 ghost use Rattle.argon2_c.specs.Answers.{judgement_of};
 ghost use Rattle.argon2_c.specs.Jobs.{setting_of_job};
-ghost use Rattle.argon2_c.specs.Steps.{Begins, Fills, Finishes, IsPlace, IsSlice, Verifies};
+ghost use Rattle.argon2_c.specs.Steps.{Begins, FillsLanes, FillsLanesAt, Finishes, IsPlace, IsSlice, Verifies};
 
 use crate::errors::CallError;
 use crate::jobs::CallerJob;
 use crate::prefetching::Prefetches;
-use argon2::parts::block::Block;
+use argon2::parts::block::{Block, first_and_others};
 use argon2::parts::common::SYNC_POINTS;
 use argon2::parts::context::Job;
 use argon2::parts::stored::are_equal;
 use argon2_fill::caller_blocks::{begin_segment, finalize_slice};
 use argon2_memory::job::facts_of_job;
-use argon2_memory::segment::fill_caller_segment;
+use argon2_memory::segment::{fill_caller_pair, fill_caller_segment};
 
 /// Whether a slice has the blocks of all lanes.
 fn is_slice(job: &Job, blocks: &[Block]) -> bool
@@ -43,8 +43,8 @@ pub fn begin(numbers: &CallerJob, lane: u32, own: &mut [Block]) -> Result<(), Ca
     Ok(())
 }
 
-/// Fills a lane's segment of a slice in a pass. `first`, `second` and `third` are the other three
-/// slices in rising order.
+/// Fills a lane's segment of a slice in a pass, or the segments of a lane and of the next one, by
+/// turns. `first`, `second` and `third` are the other three slices in rising order.
 #[inline(never)]
 pub fn fill(
     numbers: &CallerJob,
@@ -56,7 +56,7 @@ pub fn fill(
     third: &[Block],
     own: &mut [Block],
 ) -> Result<(), CallError>
-    ensures { Fills (setting_of_job numbers.now) pass slice lane first.now second.now third.now
+    ensures { FillsLanes (setting_of_job numbers.now) pass slice lane first.now second.now third.now
         own.old own.new result }
 {
     let job = match numbers.job() {
@@ -69,11 +69,36 @@ pub fn fill(
     if !is_slice(&job, first) || !is_slice(&job, second) || !is_slice(&job, third) {
         return Err(CallError::WrongBlocks);
     }
-    if own.len() != job.segment_length() as usize {
+    fill_lanes(&job.at(pass, slice), lane, first, second, third, own)
+}
+
+/// Fills one segment or two of the job's slice.
+fn fill_lanes(
+    job: &Job,
+    lane: u32,
+    first: &[Block],
+    second: &[Block],
+    third: &[Block],
+    own: &mut [Block],
+) -> Result<(), CallError>
+    requires lane_fits { lane < job.now.setting.lanes }
+    requires first_fits { IsSlice job.now.setting first.now }
+    requires second_fits { IsSlice job.now.setting second.now }
+    requires third_fits { IsSlice job.now.setting third.now }
+    ensures { let j = job.now in FillsLanesAt j.setting j.pass j.slice lane first.now second.now
+        third.now own.old own.new result }
+{
+    facts_of_job(job);
+    let length = job.segment_length() as usize;
+    if lane + 1 < job.lanes() && own.len() == 2 * length {
+        let (own, other) = first_and_others(own, length);
+        fill_caller_pair(&Prefetches, job, lane, first, second, third, own, other);
+        return Ok(());
+    }
+    if own.len() != length {
         return Err(CallError::WrongBlocks);
     }
-    let job = job.at(pass, slice);
-    fill_caller_segment(&Prefetches, &job, lane, first, second, third, own);
+    fill_caller_segment(&Prefetches, job, lane, first, second, third, own);
     Ok(())
 }
 
