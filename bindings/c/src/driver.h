@@ -28,7 +28,7 @@
 typedef proved_argon2_block block;
 typedef proved_argon2_options options;
 
-/* A share of the lanes: worker i fills the lanes i, i + tasks, i + 2 tasks and so on. */
+/* A share of the lanes, which are neighbours. */
 typedef struct worker {
     _Atomic uint64_t state; /* 2 n before step n, 2 n + 1 while a thread takes that step, 2 n + 2 after it */
     uint32_t code;

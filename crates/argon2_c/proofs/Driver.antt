@@ -1,5 +1,7 @@
 -- The team of the C driver makes a run of the steps.
-use Rattle.std.proofs.Common.{◌≡◌, ℕ, zero, suc, ◌-◌, ◌*◌, ◌%◌, ◌<◌, ◌≤◌, true, List, length, Ok, Err, refl, sym, ◌∙◌, subst, ap, arith, mod-lt}
+use Rattle.std.proofs.Common.{◌≡◌, ℕ, zero, suc, ◌-◌, ◌*◌, ◌%◌, ◌<◌, ◌≤◌, true, List, length, Ok, Err, refl, sym, ◌∙◌, subst, ap, arith}
+use Rattle.std.proofs.Common.{mul-lt-mul_of_pos_right}
+use Rattle.std.proofs.lemmas.Nat.{row-Below}
 use Rattle.argon2_standard.specs.Standard.Tag.{tag_of}
 use Rattle.argon2_standard.specs.Standard.Prehash.{setting_of}
 use Rattle.argon2_c.specs.Jobs.{job_of, setting_of_job}
@@ -25,7 +27,7 @@ module _ (job : CallerJob) (tasks : ℕ) (some : 0 < tasks) where
 
   pub apart : IsApart (work_of job tasks)
   apart = record {
-    workers = λ l fits. mod-lt l some;
+    workers = λ l fits. (row-Below (l * tasks) job.lanes job.lanes tasks (mul-lt-mul_of_pos_right fits some) (omega arith)).1;
     none = λ n m. record { others = refl; four = refl; long = λ k. refl };
     further = λ n one two three first second. record {
       others = second.others ∙ first.others;

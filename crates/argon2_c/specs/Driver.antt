@@ -1,6 +1,6 @@
 -- The team of the C driver at work on a job: step 0 begins all lanes, and step n + 1 fills slice number n, counted over all
 -- passes.
-use Rattle.std.specs.Prelude.{◌≡◌, ℕ, zero, suc, ◌*◌, ◌%◌, ◌<◌, Bool, true, List, length, Ok, Err}
+use Rattle.std.specs.Prelude.{◌≡◌, ℕ, zero, suc, ◌*◌, ◌/◌, ◌%◌, ◌<◌, Bool, true, List, length, Ok, Err}
 use Rattle.std.specs.List.{remove}
 use Rattle.argon2_standard.specs.declared.config.Config.{Config}
 use Rattle.argon2_standard.specs.Standard.Tag.{tag_of}
@@ -31,14 +31,14 @@ abbrev pub FillsSegment : CallerJob → ℕ → ℕ → List (List (List ℕ)) �
 FillsSegment job zero lane slices old new = Begins (setting_of_job job) lane old new (Ok tt)
 FillsSegment job (suc n) lane slices old new = FillsLane job n lane slices old new
 
--- worker i has the lanes i, i + tasks, i + 2 tasks ..
+-- each worker has neighbouring lanes
 abbrev pub work_of : CallerJob → ℕ → Work
 work_of job tasks =
     record {
       lanes = job.lanes;
       tasks = tasks;
       steps = suc (4 * job.passes);
-      worker = λ lane. lane % tasks;
+      worker = λ lane. lane * tasks / job.lanes;
       Memory = List (List (List ℕ));
       Segment = List (List ℕ);
       segment = segment_in_step job;

@@ -153,6 +153,12 @@ static struct model {
 
 #include "team_moves.h" /* whether Team.antt allows each move (moves.py) */
 
+/* The worker that has a lane. */
+static uint64_t worker_of(uint64_t lane)
+{
+    return lane * model.call->tasks / asked.lanes;
+}
+
 static void make(enum move move, bool can)
 {
     must(can, move_names[move]);
@@ -470,7 +476,7 @@ static void look_at_job(const proved_argon2_job *passed_job)
 /* Looks at a step of a lane, whose worker's part the thread has claimed. */
 static void write_lane(uint64_t step, uint32_t lane)
 {
-    const uint32_t worker = lane % model.call->tasks;
+    const uint64_t worker = worker_of(lane);
     go_on();
     make(Writes, can_Writes(step, worker, lane + 1) && model.owner[worker] == current);
     if (has_places()) {
@@ -505,8 +511,10 @@ uint32_t proved_argon2_job_fill(const proved_argon2_job *passed_job, uint32_t pa
     const block *first, size_t first_len, const block *second, size_t second_len, const block *third, size_t third_len,
     block *own, size_t own_len)
 {
-    const size_t len = slice_len();
-    write_lane(4 * (uint64_t)pass + slice + 1, lane);
+    const size_t len = slice_len(), lanes = own_len == 2 * (size_t)asked.segment ? 2 : 1;
+    for (uint32_t i = 0; i < lanes; i++) {
+        write_lane(4 * (uint64_t)pass + slice + 1, lane + i);
+    }
     if (run.code != PROVED_ARGON2_OK) {
         return PROVED_ARGON2_OK;
     }
@@ -520,7 +528,10 @@ uint32_t proved_argon2_job_fill(const proved_argon2_job *passed_job, uint32_t pa
     must(first_len == len && second_len == len && third_len == len, "whole slices");
     must(first == SLICE(slice == 0) && second == SLICE(slice <= 1 ? 2 : 1) && third == SLICE(slice <= 2 ? 3 : 2),
         "the other three slices in rising order");
-    look_at_lane(&run.filled, lane, slice, own, own_len);
+    must(lanes == 2 || lane + 1 == asked.lanes || worker_of(lane + 1) != worker_of(lane), "two lanes at a time");
+    for (uint32_t i = 0; i < lanes; i++) {
+        look_at_lane(&run.filled, lane + i, slice, own + (size_t)i * asked.segment, own_len / lanes);
+    }
     return fails(PROVED_ARGON2_NO_PLACE) ? PROVED_ARGON2_NO_PLACE : PROVED_ARGON2_OK;
 }
 

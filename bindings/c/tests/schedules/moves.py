@@ -25,7 +25,7 @@ NAMES = {
        for name, many in PLACES.items()},
     's.place': 'model.place[{0}]', 's.wakes': 'model.wakes[{0}]', 'members': 'model.members',
     'is_long': 'model.is_long', 'w.segment': '({2} == {1} + 1)', 'w.Keeps': 'true',
-    'w.Fills': '(model.written[{1}] == {0} + 1)', 'w.worker': '({0} % model.call->tasks)',
+    'w.Fills': '(model.written[{1}] == {0} + 1)', 'w.worker': '({0} * model.call->tasks / model.call->job.lanes)',
     'w.tasks': 'model.call->tasks', 'w.lanes': 'model.call->job.lanes',
     'w.steps': '(4 * (uint64_t)model.call->job.passes + 1)', 'suc': '({0} + 1)', 'true': 'true', 'false': 'false',
     'cond': '({0} ? {1} : {2})', 'eqb': '({0} == {1})', 'ltb': '({0} < {1})',

@@ -5,7 +5,7 @@
 
 #include "driver.h"
 
-enum { MOST_THREADS = 3 };
+enum { MOST_THREADS = 4 };
 
 /* A call begins in the caller's thread alone, in long parts or not. `written` has, for each lane, one more than the
  * step that wrote it last. */

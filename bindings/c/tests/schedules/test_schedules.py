@@ -25,17 +25,17 @@ SANITIZED = '-fsanitize=address,undefined'
 # The driver calls accesses.c for each access of memory.
 WATCHED = '-fsanitize=thread,undefined', '--param=tsan-instrument-func-entry-exit=0'
 WRAPPED = [f'-Wl,--wrap={name}' for name in ('calloc', 'free')]
-# Lanes, threads and passes.
-CASES = list(itertools.product((1, 2, 3), (1, 2, 3), (1, 2)))
+# Lanes, threads and passes. With four lanes, each of two threads fills two lanes at a time.
+CASES = [*itertools.product((1, 2, 3), (1, 2, 3), (1, 2)), (4, 2, 1)]
 # By threads and passes, how many switches of threads without need are allowed.
 SWITCHES = {(1, 1): 0, (1, 2): 0, (2, 1): 2, (2, 2): 2, (3, 1): 2, (3, 2): 1}
 # By lanes and threads, how many runs there are over all kinds of call, of one pass and of two.
 RUNS = {(1, 1): (128, 192), (1, 2): (128, 192), (1, 3): (128, 192),
-        (2, 1): (168, 264), (2, 2): (60633, 333532), (2, 3): (60633, 44708),
-        (3, 1): (208, 336), (3, 2): (91134, 521118), (3, 3): (774744, 257040)}
+        (2, 1): (136, 200), (2, 2): (60617, 333500), (2, 3): (60617, 44676),
+        (3, 1): (176, 272), (3, 2): (73476, 408010), (3, 3): (774728, 257008), (4, 2): (82494,)}
 # By each fault's name: a piece of the driver, and what takes its place. @ separates the lines of a piece.
 FAULTS = {name: [piece.replace('@', '\n') for piece in pieces] for name, *pieces in rows(HERE / 'faults.txt')}
-assert len(FAULTS) == 42
+assert len(FAULTS) == 47
 # By model and move, a piece of the model, and one with which the model allows the move less often.
 NARROWER = {
     ('Team', 'Wakes'): ('s.woken j ≤ s.step', 's.woken j < s.step'),

@@ -8,7 +8,7 @@ A block that another block selects is reported at each place that finds or reads
 import base64
 import random
 import struct
-from collections import namedtuple
+from collections import Counter, namedtuple
 from pathlib import Path
 from typing import NamedTuple
 
@@ -22,6 +22,7 @@ VARIANTS, VERSIONS = ('argon2d', 'argon2i', 'argon2id'), (16, 19)
 HASH_RAW, HASH_ENCODED, VERIFY_RAW, VERIFY_ENCODED = range(4)
 WITHIN, PASSWORD_HASH, PASSWORD_VERIFY, HASH_OVER, VERIFY_OVER = range(4, 9)
 OPTIONS = FRESH, REUSED, PROGRESS, THREADS, CALLER = range(5)
+MOST_THREADS = 1, 1, 1, 4, 2 ** 32 - 1  # with each of the options
 OK, DECODING_FAIL, MISMATCH = 0, 19, 64
 # The cases use vectors that write at most FEW_BLOCKS, and one whose memory has more than MAPPED_BLOCKS. Each byte of a
 # hash is changed alone if the verdicts write at most CHEAP blocks.
@@ -68,14 +69,17 @@ class Vector(NamedTuple):
         others = 2 * self.lanes, 4 * slices * self.passes, 2 * slices
         return 4 * slices * self.passes - others[self.variant]
 
-    def expected(self):
-        """Returns how many of these references are told beforehand if one call fills all lanes: in lanes that are
-        filled two by turns, all except the first of each run of 128 blocks."""
+    def expected(self, most_threads):
+        """Returns how many of these references are told beforehand: in lanes that a thread fills two by turns, all
+        except the first of each run of 128 blocks. Each thread has neighbouring lanes."""
+        threads = min(most_threads, self.lanes) if has_threads(self) else 1
+        lanes_of_each = Counter(lane * threads // self.lanes for lane in range(self.lanes))
         length = self.memory // (4 * self.lanes)
         told = length - -(-length // RUN)
         slices = 4 * self.passes, 0, 4 * self.passes - 2
         begun = min(2, told) if self.variant == 0 else 0
-        return self.lanes // 2 * 2 * (slices[self.variant] * told - begun)
+        by_turns = sum(lanes // 2 * 2 for lanes in lanes_of_each.values())
+        return by_turns * (slices[self.variant] * told - begun)
 
 
 class Question(NamedTuple):
@@ -100,7 +104,7 @@ class Question(NamedTuple):
         return self.vector.references() if self.code != DECODING_FAIL else 0
 
     def expected(self):
-        return self.vector.expected() if self.code != DECODING_FAIL and self.options in (FRESH, REUSED) else 0
+        return self.vector.expected(MOST_THREADS[self.options]) if self.code != DECODING_FAIL else 0
 
     def is_right(self, came, reads, tells):
         """A verdict is hidden, but DECODING_FAIL for a malformed hash is not. Every bit of a tag is hidden, and at
