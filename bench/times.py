@@ -31,8 +31,9 @@ TAG, kept = create_string_buffer(32), []
 KINDS = {'madvise': 'huge pages on request', 'always': 'huge pages for all'}
 SWITCH = Path('/sys/kernel/mm/transparent_hugepage/enabled')
 # KiB, passes, lanes, and the threads that fill them.
-COSTS = ((256, 2, 1, 1), (1024, 2, 1, 1), (4096, 2, 1, 1), (19456, 2, 1, 1), (1048576, 2, 1, 1), (65536, 3, 1, 1),
-         (65536, 3, 4, 1), (65536, 3, 2, 2), (65536, 3, 4, 4), (65536, 3, 8, 8), (262144, 1, 4, 4))
+COSTS = ((256, 2, 1, 1), (1024, 2, 1, 1), (4096, 2, 1, 1), (19456, 2, 1, 1), (65536, 3, 1, 1), (262144, 1, 1, 1),
+         (65536, 3, 4, 1), (102400, 2, 8, 1), (65536, 3, 4, 2), (65536, 3, 2, 2), (65536, 3, 4, 4), (65536, 3, 8, 8),
+         (262144, 1, 4, 4))
 
 
 def timed(call, *arguments):
