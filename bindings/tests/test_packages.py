@@ -52,9 +52,10 @@ TARBALLS = [f'proved-argon2-{VERSION}-{machine}.tar.gz' for machine in machines(
 CRATE, NPM, JAR = (f'proved-argon2-{VERSION}.{end}' for end in ('crate', 'tgz', 'jar'))
 GO, SDIST = f'proved-argon2-go-{VERSION}.zip', f'proved_argon2-{VERSION}.tar.gz'
 SOURCE = f'proved-argon2-{VERSION}.tar.gz'
-NAMES = [*ASKS, *WHEELS, SDIST, *TARBALLS, CRATE, NPM, GO, JAR]
+TRAITS = f'proved-argon2-password-hash-{VERSION}.crate'
+NAMES = [*ASKS, *WHEELS, SDIST, *TARBALLS, CRATE, TRAITS, NPM, GO, JAR]
 STORED = '$argon2i$v=19$m=256,t=2,p=1$c29tZXNhbHQ$iekCn0Y3spW+sCcFanM2xBT63UP2sghkUoHLIUpWRS8'
-PAPERS = {CRATE: f'proved-argon2-{VERSION}', SDIST: f'proved_argon2-{VERSION}', NPM: 'package',
+PAPERS = {CRATE: CRATE[:-6], TRAITS: TRAITS[:-6], SDIST: f'proved_argon2-{VERSION}', NPM: 'package',
           GO: f'*/*/argon2@v{VERSION}', JAR: 'META-INF', **dict.fromkeys(WHEELS, '*.dist-info/licenses'),
           **dict.fromkeys(TARBALLS, 'usr/local/share/doc/proved-argon2')}
 ZIPS = '.whl', '.zip', '.jar'
@@ -106,7 +107,7 @@ def packages(tagged, keys, tmp_path_factory):
     run('bash', '-ec', 'umask 0; "$0"/package --release --to "$1"; cd "$1"; sha256sum --quiet -c SHA256SUMS'
         '; gpg --verify SHA256SUMS.asc SHA256SUMS', tagged, folder, env=keys)
     listed = re.findall('  (.*)', read(folder / 'SHA256SUMS'))
-    assert sorted(listed) == sorted([*NAMES, SOURCE]) and len(NAMES) == 20
+    assert sorted(listed) == sorted([*NAMES, SOURCE]) and len(NAMES) == 21
     assert {file.name for file in folder.iterdir()} == {*listed, 'SHA256SUMS', 'SHA256SUMS.asc'}
     return folder
 
@@ -208,7 +209,8 @@ def test_a_version_that_is_no_release_names_its_commit(clone):
 # Each kind's packages name their version here, beside the file's name.
 NAMED = {'wheel': 'unzip -p *x86_64.whl "*/METADATA"',
          'sdist': 'tar -xOf proved_*.tar.gz --wildcards "*/PKG-INFO"',
-         'crate': 'tar -xOf *.crate --wildcards "*/Cargo.toml"', 'debian': 'dpkg-deb -f libproved-argon2-1_*.deb',
+         'crate': 'cat *.crate | tar -xzi --to-stdout --wildcards "*/Cargo.toml"',
+         'debian': 'dpkg-deb -f libproved-argon2-1_*.deb',
          'npm': 'tar -xOf *.tgz package/package.json', 'java': 'jar --describe-module --file *.jar',
          'go': 'unzip -l *.zip', 'tarball': 'ls proved-*.tar.gz'}
 UNLICENSED = {f'release/{build}/argon2_{name}' for build in machines()['x86_64'].proved for name in ('program', 'tool')}
@@ -231,7 +233,7 @@ def test_the_archive_of_the_sources_makes_all_other_packages(tagged, packages, t
         version = run(tree / 'package', '--version', kind).strip()
         assert version in run('bash', '-ec', command, cwd=made), kind
     listed = {line.split()[1]: line.split()[0] for line in read(made / 'SHA256SUMS').splitlines()}
-    assert listed.keys() | {'SHA256SUMS'} == {file.name for file in made.iterdir()} and len(listed) == 13
+    assert listed.keys() | {'SHA256SUMS'} == {file.name for file in made.iterdir()} and len(listed) == 14
     tarball, = (own for name, own in listed.items() if name.endswith(f'-{MACHINE}.tar.gz'))
     assert tarball in read(packages / 'SHA256SUMS')
     assert not [*tree.glob('bindings/out/**/*.[ao]')]  # (nothing was proved, compiled or linked)
@@ -281,7 +283,7 @@ def test_each_file_belongs_to_root_and_has_its_mode(packages, name):
              or mode != ('rwxrwxrwx' if kind == 'l' else
                          'rwxr-xr-x' if kind == 'd' or PROGRAMS.search(path) else 'rw-r--r--')
              or name[-4:] != '.deb' and (path.startswith(('/', '..')) or kind == 'd' and 'proved-argon2' not in path)]
-    assert len(found) > 10 and not wrong
+    assert len(found) > 6 and not wrong
 
 
 @pytest.mark.parametrize('machine', machines())
@@ -304,7 +306,7 @@ def test_each_has_both_licences_and_the_pages_of_its_users(unpacked, name):
     for page in ('NOTICE', 'proved-argon2.spdx'):
         assert read(papers / page) == read(TOP / page)
     own = ASKS[name][1].split() if name in ASKS else ['docs/C.md', 'docs/LIBARGON2.md', 'docs/SHELL.md']
-    for page in [] if name in (CRATE, NPM, GO, JAR, SDIST, *WHEELS) else [*OF_ALL, *own]:
+    for page in [] if name in (CRATE, TRAITS, NPM, GO, JAR, SDIST, *WHEELS) else [*OF_ALL, *own]:
         kept, ours = (re.sub(r'\]\([^)]*\)', ']', read(at / page)) for at in (papers, TOP))
         assert kept == ours, page
     pages = [page for form in ('*.md', 'METADATA') for page in (unpacked / name).rglob(form)]
@@ -458,7 +460,7 @@ FROM = {
         export PYTHON=$in/python PYTHONDONTWRITEBYTECODE=1
         debian/tests/python; PROVED_ARGON2_CPU=x86-64-v2 debian/tests/python; "$in/pip" uninstall -y proved-argon2
         diff "$scratch/before" <(find "$scratch/venv" | sort)''',
-    'crate': '''tar -xzf *.crate; cd rust; cargo run --offline --quiet
+    'crate': '''tar -xzf proved-argon2-[0-9]*.crate; cd rust; cargo run --offline --quiet
         cargo run --offline --quiet --features optional
         PROVED_ARGON2_CPU=x86-64-v2 cargo run --offline --quiet
         rm ../proved-argon2-*/lib/x86_64/libproved_argon2.a; cargo clean -q

@@ -372,6 +372,7 @@ mod tests {
         // SAFETY: the call has no arguments.
         let number = unsafe { super::proved_argon2_library_version() };
         let version = format!("{}.{}.{}", number / 1_000_000, number / 1_000 % 1_000, number % 1_000);
-        assert_eq!(version, env!("CARGO_PKG_VERSION"));
+        // What is no release has a `-` behind these numbers.
+        assert_eq!(Some(&*version), env!("CARGO_PKG_VERSION").split('-').next());
     }
 }

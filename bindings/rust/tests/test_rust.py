@@ -1,5 +1,7 @@
 """Tests of the crate for Rust: its own tests, those of the crates that it replaces, its public items (listed in
 bindings/rust/surface.txt), the code of its page, and where its build script finds the library."""
+import hashlib
+import json
 import os
 import pathlib
 import re
@@ -14,6 +16,9 @@ from running import fetch, is_without_kernels, linked_without_kernels, needs, pr
 CRATE, SOURCES = TOP / "bindings/rust", TOP / "bindings/rust/tests/programs"
 REGISTRY = pathlib.Path("/usr/share/cargo/registry")
 PAGE = (TOP / "docs/RUST.md").read_text()
+# The lines of the page that upload what ./package makes.
+(PUBLISHING,) = re.findall(
+    r"^### crates\.io\n(?:[^# \n].*\n|\n)+((?:    .*\n)+)", (TOP / "docs/PUBLISHING.md").read_text(), re.M)
 ITEM = re.compile(r'<a href="(enum|fn|struct|trait|type|constant|macro)\.[^"]*">([^<]*)</a>')
 # A part of an item, as rustdoc marks it. Parts of traits have more words in their class.
 PART = re.compile(r'id="(method|variant|structfield|associatedconstant)\.(\w+)" class="([^"]*)"')
@@ -106,6 +111,49 @@ def cargo(built, cargo):
 
 def test_the_tests_of_the_crate_pass(cargo, drawn):
     assert "test result: ok. " in run("cargo", "test", "--offline", "--no-fail-fast", cwd=CRATE, env={**cargo, **drawn})
+
+
+@pytest.fixture(scope="module")
+def crates(tmp_path_factory):
+    """The crate and the one for password-hash 0.6, as ./package makes them for this machine."""
+    folder = tmp_path_factory.mktemp("crates")
+    run("./package", "crate", "--to", folder, env={"MACHINES": MACHINE})
+    made = sorted(folder.glob("*.crate"))
+    assert len(made) == 2
+    return made
+
+
+def would_publish(crate, folder, named):
+    """Does all that cargo does before it uploads a crate to crates.io. It also compiles a program with the crate. An
+    empty registry takes the place of crates.io. What is there, cargo does not check before."""
+    (folder / "registry").mkdir(parents=True)
+    (folder / "registry/config.json").write_text('{"dl": "file:///nowhere", "api": "file:///nowhere"}')
+    git = "git", "-C", folder / "registry", "-c", "user.name=x", "-c", "user.email=x"
+    for words in ["init", "-q"], ["add", "."], ["commit", "-q", "-m", "x"]:
+        run(*git, *words)
+    shutil.copy(crate, folder)
+    assert crate.stat().st_size < 10_000_000  # the most that crates.io takes
+    publish = f"sed -i /^publish/d Cargo.toml && cargo publish --dry-run --index file://{folder}/registry"
+    said = start("sh", "-euc", PUBLISHING.replace("cargo publish", publish), cwd=folder, env=named)
+    assert said.returncode == 0 and "aborting upload due to dry run" in said.stderr, said
+    assert {"LICENSE", "NOTICE"} <= {file.name for file in (folder / crate.stem).iterdir()}
+
+
+def test_cargo_would_publish_the_crate(cargo, crates, tmp_path):
+    would_publish(crates[0], tmp_path, {**cargo, "PROVED_ARGON2_LIB_DIR": None})
+    assert (tmp_path / crates[0].stem / f"lib/{MACHINE}/libproved_argon2.a").is_file()
+
+
+def test_the_library_that_cargo_compiles_passes_the_tests_of_the_crate(cargo, drawn, crates, tmp_path):
+    """The packed crate has the library as C."""
+    run("tar", "-xzf", crates[0], "-C", tmp_path)
+    folder = (tmp_path / crates[0].stem).rename(tmp_path / "crate")
+    shutil.copytree(CRATE / "tests", folder / "tests")
+    (tmp_path / "vectors").symlink_to(TOP / "bindings/vectors")
+    alone = {**cargo, **drawn, "CARGO_TARGET_DIR": tmp_path / "target", "PROVED_ARGON2_LIB_DIR": None}
+    said = run("cargo", "test", "--offline", cwd=folder, env={**alone, "PROVED_ARGON2_COMPILE": 1})
+    (made,) = tmp_path.glob("target/debug/build/*/out/libproved_argon2.a")
+    assert "test result: ok. " in said and " T proved_portable_" in run("nm", made)
 
 
 @pytest.fixture(scope="module")
@@ -271,8 +319,8 @@ def test_a_program_with_the_traits_of_password_hash_0_5_succeeds(cargo, tmp_path
     assert 'name = "password-hash"\nversion = "0.5.' in (folder / "Cargo.lock").read_text()
 
 
-def test_a_program_with_the_traits_of_password_hash_0_6_succeeds(cargo, tmp_path):
-    """It needs crates of Debian's next release: those of this one are too old."""
+def test_a_program_with_the_traits_of_password_hash_0_6_succeeds(cargo, crates, tmp_path):
+    """It needs crates of Debian's next release: those of this one are too old. Cargo would publish the crate."""
     names = "password-hash", "phc", "base64ct", "ctutils", "cmov", "getrandom", "cfg-if", "libc"
     are_fetched = all(fetch("fetch_package", f"librust-{name}-dev", tmp_path) for name in names)
     texts = [file.read_text() for file in tmp_path.glob("usr/share/cargo/registry/*/Cargo.toml")]
@@ -285,6 +333,10 @@ def test_a_program_with_the_traits_of_password_hash_0_6_succeeds(cargo, tmp_path
     named = {**cargo, "CARGO_HOME": tmp_path, "RUSTFLAGS": f"{os.environ.get('RUSTFLAGS', '')} -Dwarnings"}
     run(*RUN, cwd=folder, env=named)
     assert "1 passed" in run("cargo", "test", "--offline", "--doc", cwd=CRATE / "password_hash", env=named)
+    run("tar", "-xzf", crates[0], "-C", tmp_path / "usr/share/cargo/registry")
+    (tmp_path / "usr/share/cargo/registry" / crates[0].stem / ".cargo-checksum.json").write_text(json.dumps(
+        {"package": hashlib.sha256(crates[0].read_bytes()).hexdigest(), "files": {}}))
+    would_publish(crates[1], tmp_path / "publishing", named)
 
 
 def test_the_tests_of_rust_argon2_pass(cargo, tmp_path):
@@ -483,9 +535,7 @@ aarch64_be-unknown-linux-gnu aarch64 linux gnu 64 big
 riscv64gc-unknown-linux-gnu riscv64 linux gnu 64
 x86_64-pc-windows-gnu x86_64 windows gnu 64""".splitlines())
 def test_the_build_script_stops_for_a_target_without_a_library(current, target):
-    name = target.split()[0]
-    what = "libproved_argon2.a" if target == WINDOWS or "riscv64" in name else "archive"
-    current.refuses(f"there is no {what} for {name}", target)
+    current.refuses(f"there is no libproved_argon2.a for {target.split()[0]}", target)
 
 
 def test_the_build_script_uses_release_only_if_it_is_of_these_sources(tmp_path, other):
@@ -509,9 +559,13 @@ def test_the_build_script_compiles_the_library_as_c_for_a_target_without_an_arch
         one.has_sources()
     said = repository.links("aarch64_be-unknown-linux-gnu aarch64_be linux gnu 64 big", made, OUT_DIR=made,
                             CC="aarch64-linux-gnu-gcc", AR="aarch64-linux-gnu-ar")
-    assert "cargo:warning=there is no archive for aarch64_be-" in said
+    assert "cargo:warning=the library as C was compiled for aarch64_be-" in said
     assert " T proved_argon2_hash_raw\n" in run("aarch64-linux-gnu-nm", made / "libproved_argon2.a")
     assert "check_release" not in run("aarch64-linux-gnu-ar", "t", made / "libproved_argon2.a")
+    repository.links(TARGET, made, OUT_DIR=made, PROVED_ARGON2_COMPILE="1")
+    assert " T proved_argon2_hash_raw\n" in run("nm", made / "libproved_argon2.a")
+    for no_c in "x86_64-pc-windows-msvc x86_64 windows msvc 64", "aarch64-apple-darwin aarch64 macos - 64":
+        repository.refuses("MSVC" if "msvc" in no_c else "in CC and AR", no_c)
     old = "i686-unknown-linux-gnu x86 linux gnu 32"
     repository.refuses("name a compiler and an archiver for it in CC and AR", old)
     other.refuses("it is of other sources", old)

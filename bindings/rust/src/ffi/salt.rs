@@ -11,23 +11,15 @@ pub fn new_salt() -> Option<[u8; SALT_SIZE]> {
     fill(&mut salt).then_some(salt)
 }
 
-/// Fills the salt, and returns whether the system had random bytes. The system returns so few bytes
-/// completely or not at all.
+/// Fills the salt, and returns whether the system had random bytes.
 #[cfg(not(windows))]
 fn fill(salt: &mut [u8; SALT_SIZE]) -> bool {
-    use std::io::{Error, ErrorKind};
-
     extern "C" {
-        fn getrandom(buffer: *mut c_void, length: usize, flags: std::os::raw::c_uint) -> isize;
+        fn getentropy(buffer: *mut c_void, length: usize) -> std::os::raw::c_int;
     }
 
-    loop {
-        // SAFETY: the pointer and the length are those of an array that this function may write to.
-        let count = unsafe { getrandom(salt.as_mut_ptr().cast(), SALT_SIZE, 0) };
-        if count >= 0 || Error::last_os_error().kind() != ErrorKind::Interrupted {
-            return count == SALT_SIZE as isize;
-        }
-    }
+    // SAFETY: the pointer and the length are those of an array that this function may write to.
+    unsafe { getentropy(salt.as_mut_ptr().cast(), SALT_SIZE) == 0 }
 }
 
 /// Fills the salt, and returns whether the system had random bytes.
