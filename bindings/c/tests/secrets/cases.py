@@ -69,17 +69,24 @@ class Vector(NamedTuple):
         others = 2 * self.lanes, 4 * slices * self.passes, 2 * slices
         return 4 * slices * self.passes - others[self.variant]
 
+    def told(self, count):
+        """Returns how many of these references of a lane are told beforehand, if `count` of each whole segment are."""
+        slices = 4 * self.passes, 0, 4 * self.passes - 2
+        return slices[self.variant] * count - (min(2, count) if self.variant == 0 else 0)
+
     def expected(self, most_threads):
         """Returns how many of these references are told beforehand: in lanes that a thread fills two by turns, all
         except the first of each run of 128 blocks. Each thread has neighbouring lanes."""
         threads = min(most_threads, self.lanes) if has_threads(self) else 1
         lanes_of_each = Counter(lane * threads // self.lanes for lane in range(self.lanes))
         length = self.memory // (4 * self.lanes)
-        told = length - -(-length // RUN)
-        slices = 4 * self.passes, 0, 4 * self.passes - 2
-        begun = min(2, told) if self.variant == 0 else 0
         by_turns = sum(lanes // 2 * 2 for lanes in lanes_of_each.values())
-        return by_turns * (slices[self.variant] * told - begun)
+        return by_turns * self.told(length - -(-length // RUN))
+
+    def ahead(self):
+        """Returns how many are found while the block before is computed: in the only lane, all except the first of
+        each segment."""
+        return self.told(self.memory // 4 - 1) if self.lanes == 1 else 0
 
 
 class Question(NamedTuple):
@@ -106,13 +113,16 @@ class Question(NamedTuple):
     def expected(self):
         return self.vector.expected(MOST_THREADS[self.options]) if self.code != DECODING_FAIL else 0
 
-    def is_right(self, came, reads, tells):
+    def ahead(self):
+        return self.vector.ahead() if self.code != DECODING_FAIL else 0
+
+    def is_right(self, came, reads, tells, finds):
         """A verdict is hidden, but DECODING_FAIL for a malformed hash is not. Every bit of a tag is hidden, and at
         least one bit of each letter of the tag in an encoded hash; nothing else is. Each reference is read at `reads`
-        places, and told beforehand at `tells`."""
+        places, told beforehand at `tells`, and found ahead at `finds`."""
         is_read = self.code != DECODING_FAIL
         calls_back = is_read and self.options in (PROGRESS, CALLER)
-        addresses = reads * self.references() + tells * self.expected()
+        addresses = reads * self.references() + tells * self.expected() + finds * self.ahead()
         expected = (self.branches + addresses, calls_back, self.code, is_read and self.verified != b'')
         text = came.out.rstrip(b'\0') if self.call == PASSWORD_HASH else self.written
         hidden, others = came.bits[self.open:len(text)], came.bits[:self.open] + came.bits[len(text):]

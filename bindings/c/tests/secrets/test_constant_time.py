@@ -2,12 +2,12 @@
 the letters of a hash. It covers the four calls that hash and verify (also within limits, by threads, and in steps over
 a memory of the caller, who runs their tasks), password_hash and password_verify, in both proved builds of the one
 archive. (valgrind knows no AVX-512. The build for x86-64-v4 differs only in its compression: docs/CLAIMS.md says how
-that is shown to branch on its flag alone and to compute no address.) With Argon2i, no branch or address may depend on
-these before there is a tag, a text or a verdict on a hash, except two branches on the letters of a stored hash. With
-Argon2d and Argon2id, the addresses used to find, prefetch and read a block that other blocks select may also depend on
-them, but no further branch may. Memcheck must report the leaks that are planted in the library (plant_leak.py) and in
-its driver; otherwise this test shows nothing. calls.c makes the calls, which cases.py lists. depends.txt has what each
-case may report.
+that is shown to branch on its flag alone and to compute no address, except for prefetches.) With Argon2i, no branch or
+address may depend on these before there is a tag, a text or a verdict on a hash, except two branches on the letters of
+a stored hash. With Argon2d and Argon2id, the addresses used to find, prefetch and read a block that other blocks select
+may also depend on them, but no further branch may. Memcheck must report the leaks that are planted in the library
+(plant_leak.py) and in its driver; otherwise this test shows nothing. calls.c makes the calls, which cases.py lists.
+depends.txt has what each case may report.
 """
 
 import re
@@ -25,10 +25,19 @@ from running import ENVIRONMENT, ahead
 from running import rows as rows_of
 
 SECONDS = 3600
-# The builds, each with how many places find or read the block that is referred to, and how many find and prefetch it.
-READS = dict(zip(machines()['x86_64'].proved, ((10, 2), (9, 2)), strict=True))
+# The builds, each with how many places find or read the block that is referred to, how many find and prefetch it, and
+# how many do so while the block before is computed.
+READS = dict(zip(machines()['x86_64'].proved, ((10, 2, 1), (9, 2, 1)), strict=True))
 # Memcheck does not see a prefetch. So the function that prefetches reads, as that does which is proved.
 EXPECT, READS_A_WORD = '.text.argon2_c::prefetching::proved_argon2_expect', b'\x48\x8b\x07\xc3'
+# The function that fills ahead prefetches in the build for x86-64-v4. In the others it reads at the same address, once
+# it has filled the block: by its first word, and by the size and columns that it is passed.
+READS_AHEAD = """
+    push %rdx; push %rcx; push %r8; call original; pop %r8; pop %rcx; pop %rdx
+    mov (%rdx), %eax; imul %rax, %rax; shr $32, %rax; imul %rcx, %rax; shr $32, %rax
+    mov %r8d, %r9d; shr $32, %r8; cmp %r9, %rax; sbb %r10, %r10; not %r10; and %r10, %r8
+    sub %rax, %r8; dec %r8; shl $10, %r8; mov (%rdx, %r8), %rax; ret
+"""
 FEW = 2  # vectors are enough for a case with a leak
 CASES = of.hashes, of.hashed_texts, of.verdicts, of.verdicts_on_texts
 EVERY, NEWER = tuple(product(of.VARIANTS, of.VERSIONS)), tuple(product(of.VARIANTS, [19]))
@@ -74,8 +83,9 @@ def planted(leak, folder, objects):
 def reading(objects, code):
     """Returns the objects, in which a block that is prefetched is read."""
     code.write_bytes(READS_A_WORD)
-    for cpu in READS:
-        plant_leak.run('objcopy', '--update-section', f'{EXPECT}={code}', objects[f'proved_argon2_{cpu}.o'])
+    for own in (objects[f'proved_argon2_{cpu}.o'] for cpu in READS):
+        plant_leak.run('objcopy', '--update-section', f'{EXPECT}={code}', own)
+        plant_leak.plant(own, plant_leak.AHEAD, READS_AHEAD, own)
     return objects
 
 
@@ -106,7 +116,8 @@ class Came:
         self.wrong = [answer[:4] for question, answer in zip(questions, answers)
                       if not question.is_right(answer, *READS[cpu])]
         # Each reference is found and read by addresses at READS places, once at each.
-        numbers = (sum(one.references() for one in questions), sum(one.expected() for one in questions))
+        numbers = (sum(one.references() for one in questions), sum(one.expected() for one in questions),
+                   sum(one.ahead() for one in questions))
         addresses = [number for number, places in zip(numbers, READS[cpu]) if number for _ in range(places)]
         self.is_right = (self.is_ended and not self.wrong and self.places.keys() <= {BRANCH, ADDRESS}
                          and sum(self.places[BRANCH]) == sum(one.branches for one in questions)
