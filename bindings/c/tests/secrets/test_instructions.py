@@ -32,7 +32,7 @@ X86 = re.compile(
     r'|(ext|ins)r[bdwq]|mov[sz]x[a-z]+|test)'
     r'|v?mov[adhlpqsuz]+(32|64)?|vshufi64x2'
     r'|mov([zs][bw]|ab|[bw]|be)?[lqsw]*|v?movmskpd|vpmaskmovd|xchg|v?(xor|shuf)p[ds]'
-    r'|vzeroupper|vbroadcasti128|v(insert|extract)i128|push|pop|lea|tzcnt'
+    r'|vzeroupper|vbroadcasti128|v(insert|extract)i128|push|pop|lea(ve)?|tzcnt'
     r'|(i?mul|mulx)[lq]?|(add|adc|sub|sbb|inc|dec|xor|or|and|not|neg|shl|shr|sar|shld|ror|rol|rorx'
     r'|bswap|cmp|test)[bwlq]?'
     r'|set[a-z]+|cmov[a-z]+|j[a-z]+|call|ret|nop[lw]?|endbr64|ud2|prefetcht0')
