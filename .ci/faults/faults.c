@@ -5,7 +5,7 @@
 
    REFUSE_REQUEST N  refuses the N-th request for memory
    REFUSE_START N    refuses the N-th thread start
-   REFUSE_TRIES N    refuses so many in a row, since callers try again; without it, one
+   REFUSE_TRIES N    refuses this many in a row, since callers try again; without it, one
    DELAY N           each new thread waits up to N microseconds (each its own time) before it begins and ends, and says
                      `late`
 

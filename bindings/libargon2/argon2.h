@@ -111,7 +111,7 @@ typedef struct Argon2_Context {
     uint32_t t_cost;            /* the passes */
     uint32_t m_cost;            /* the memory in KiB */
     uint32_t lanes;             /* the degree of parallelism, which the tag depends on */
-    uint32_t threads;           /* at most so many at once */
+    uint32_t threads;           /* at most this many at once */
     uint32_t version;           /* an argon2_version */
     allocate_fptr allocate_cbk; /* where the memory comes from, or null */
     deallocate_fptr free_cbk;   /* frees the memory, which holds no blocks; or null */

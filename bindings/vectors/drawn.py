@@ -24,7 +24,7 @@ class Context(ctypes.Structure):
 
 
 def length(source, least):
-    """A length of at least so many bytes."""
+    """A length of at least this many bytes."""
     near = source.choice(LENGTHS) + source.randint(-2, 2)
     return max(least, near) if source.randrange(2) else source.randint(least, 40)
 

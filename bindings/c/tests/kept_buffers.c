@@ -54,7 +54,7 @@ static size_t kept(void)
     return (held + BESIDE) / BUFFER;
 }
 
-/* Begins with a handle for at most so many buffers, and with the usual call. */
+/* Begins with a handle for at most this many buffers, and with the usual call. */
 static bool begin(uint32_t most)
 {
     const bool is_known = take(&usual); /* (libargon2 may make requests) */
@@ -337,7 +337,7 @@ static bool child_is_right(const void *used, size_t others)
     return good && kept() == 0;
 }
 
-/* A child of a process whose other thread computes in one of so many buffers. */
+/* A child of a process whose other thread computes in one of this many buffers. */
 static bool is_child_beside_right(uint32_t most)
 {
     pthread_t thread;

@@ -51,7 +51,7 @@ static const struct row {
     ROW(hash_encoded_with, 1, true), ROW(verify_raw_with, 1, true), ROW(verify_encoded_with, 1, true),
     ROW(job_run, 0, true), ROW(job_run_verify, 1, true)};
 
-/* Returns how many bytes the driver allocates for so many blocks. A long rest behind the last huge page gets a huge
+/* Returns how many bytes the driver allocates for this many blocks. A long rest behind the last huge page gets a huge
  * page. */
 static size_t whole_of(uint32_t mem_cost)
 {

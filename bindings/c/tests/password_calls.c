@@ -134,7 +134,7 @@ static int stop(void *arg, uint64_t done, uint64_t all)
     return 1;
 }
 
-/* The result of verifying a text with these options, this guess and so many bytes of the pepper. */
+/* The result of verifying a text with these options, this guess and this many bytes of the pepper. */
 static uint32_t rehash_verdict(proved_argon2_options options, const char *text, const char *guess, size_t pepper_len)
 {
     return proved_argon2_password_verify_with(&options, text, guess, strlen(guess), pepper, pepper_len);

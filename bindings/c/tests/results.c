@@ -369,7 +369,7 @@ static void check_limits(void)
     check_code(code, PROVED_ARGON2_LANES_TOO_FEW, "passes at their limit");
 }
 
-/* A text of so many characters, whose salt of zeros fills it. */
+/* A text of this many characters, whose salt of zeros fills it. */
 static const char *text_of_length(size_t length)
 {
     static const char beginning[] = "$argon2id$v=19$m=8,t=1000,p=1$", end[] = "$AAAAAAA";

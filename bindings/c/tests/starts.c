@@ -94,7 +94,7 @@ static void check_verifying(void)
     check(unknown == PROVED_ARGON2_MISMATCH && granted == EACH - 1, "an unknown user has as many");
 }
 
-/* A hash's processor time in microseconds with so many threads, without the system's time. */
+/* A hash's processor time in microseconds with this many threads, without the system's time. */
 static int64_t time_of(uint32_t lanes, uint32_t threads)
 {
     const proved_argon2_options with = by(threads);

@@ -98,7 +98,7 @@ static inline void refuse_nothing(void)
     first_refused = last_refused = refused_request = 0;
 }
 
-/* Refuses so many starts from this one on. */
+/* Refuses this many starts, from number `first` on. */
 static inline void refuse_starts(size_t first, size_t count)
 {
     refuse_nothing();

@@ -153,7 +153,7 @@ unsigned napi_call_function(
     return 0;
 }
 
-/* Begins a hash over so many KiB, and returns the code. */
+/* Begins a hash over this many KiB, and returns the code. */
 static double begin_hash(call *self, uint32_t kib)
 {
     *self = (call){{0, 1, 0, can_stop}, {PROVED_ARGON2_ID, 0x13, kib, 1, 1, 32}, {0}, NULL, -1, false};

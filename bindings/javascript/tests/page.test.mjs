@@ -63,7 +63,7 @@ const mixedCalls = (from, to) => `${IMPORTED}
     }
     return true;`;
 
-/** Hashes, computed in the page by at most so many workers. */
+/** Hashes, computed in the page by at most this many workers. */
 const computedInPage = (hashes, threads) => `${IMPORTED}
     const bytes = ({ data }) => Uint8Array.from(data);
     const hex = (tag) => [...tag].map((byte) => byte.toString(16).padStart(2, '0')).join('');

@@ -2,7 +2,7 @@
 """The processor time of Debian's programs over Debian's libargon2 and over ours, in turn, in one run: a table for
 docs/PERFORMANCE.md. The time that a program takes without a hash is subtracted.
 
-    times.py FOLDER [RUNS]     FOLDER as for programs.py; the medians of so many runs, 9 if none is named
+    times.py FOLDER [RUNS]     FOLDER as for programs.py; the medians of RUNS runs, 9 if none is named
 """
 
 import os

@@ -4,7 +4,7 @@
  *
  *     explore_buffers CALLERS CALLS MOST SWITCHES    prints how many runs there were, or the first fault
  *
- * Each caller makes so many calls with a handle of at most MOST buffers. Callers are run one at a time. Another may run
+ * Each caller makes CALLS calls with a handle of at most MOST buffers. Callers are run one at a time. Another may run
  * before each atomic access (accesses.c), and during each hash, at most SWITCHES times. In a run one buffer may be
  * denied, the time may pass after which idle buffers are freed, and a hash may fork: its process then goes on as the
  * child, which has no other caller. */
