@@ -160,7 +160,8 @@ UNRELEASED = {
     'another file': (f'echo >>release/portable/module_code.h; git commit -qam more; git tag -f -s -m more v{VERSION}',
                      'release/portable/module_code.h is not the file that release/MANIFEST names'),
     'a wrong page': ('mkdir out; touch out/wrong', 'tests of pages: --documents'),
-    'one kind': ('set -- go', '--release makes all kinds')}
+    'one kind': ('set -- go', '--release makes all kinds'),
+    'another release': ('mkdir "$0"; touch "$0/old"', '/made is not empty')}
 
 
 @pytest.fixture
@@ -173,9 +174,9 @@ def clone(tagged, tmp_path):
 def test_only_what_a_signed_tag_names_is_released(clone, keys, tmp_path, name):
     change, why = UNRELEASED[name]
     who = 'git config user.name Signer; git config user.email signer@a.example'
-    refuses(1, f'package: {why}', 'bash', '-euc', f'{who}; {change} >/dev/null; ./package --release --to "$0" "$@"',
+    refuses(1, why, 'bash', '-euc', f'{who}; {change} >/dev/null; ./package --release --to "$0" "$@"',
             tmp_path / 'made', cwd=clone, env=keys)
-    assert not (tmp_path / 'made').exists()
+    assert not [*tmp_path.glob('made/*proved*')]
 
 
 # The grammars of semver.org and, for a version without a tag, of Go's modules.
