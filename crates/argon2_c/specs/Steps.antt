@@ -55,7 +55,7 @@ pub record AreTwo (s : Setting) (lane : ℕ) (segments : List (List ℕ)) : Type
   pub next_fits : suc lane < s.lanes
   pub long : length segments ≡ 2 * s.segment_length
 
--- one lane's segment is filled, or of two segments each, and both with the same result
+-- a call for one segment fills it; a call for two fills each of them, with one result for both
 pub record FillsLanesAt (s : Setting) (pass slice lane : ℕ) (first second third old new : List (List ℕ)) (answer : Result (Unit {0}) CallError) : Type 0 where
   pub one : (AreTwo s lane old → ⊥) → FillsAt s pass slice lane first second third old new answer
   pub two : AreTwo s lane old
