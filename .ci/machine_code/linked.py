@@ -66,8 +66,8 @@ class Code:
         content = path.read_bytes()
         header = content[max(content.find(b'\x7fELF'), 0):]
         is_windows = path.parent.name.startswith('windows')
-        prefix, self.words, self.kind, self.decode = \
-            WINDOWS if is_windows else KINDS[int.from_bytes(header[18:20], 'little')]
+        self.number = int.from_bytes(header[18:20], 'little')
+        prefix, self.words, self.kind, self.decode = WINDOWS if is_windows else KINDS[self.number]
         self.objdump = require(f'{prefix}objdump')
         if content[:2] == b'MZ' or content[:4] == b'\x7fELF' and content[16] != OBJECT:
             self.read(path)

@@ -89,8 +89,9 @@ static place *take_first(buffers *from, bool is_idle)
     return NULL;
 }
 
-/* Takes a place that has a buffer of this length, or returns null. */
-static place *take_buffer(buffers *from, uint64_t len)
+/* Takes a place that has a buffer of this length, or returns null. (A check of the machine code leaves out this
+ * function and free_due, so they are never inlined.) */
+static __attribute__((noinline)) place *take_buffer(buffers *from, uint64_t len)
 {
     if (from == NULL || len > from->len) {
         return NULL;
@@ -134,7 +135,7 @@ static uint64_t free_if_due(place *of, uint64_t len, uint64_t now)
 }
 
 /* Frees all buffers that have been idle for too long. Returns when the next one will have been, as above. */
-static uint64_t free_due(buffers *of, uint64_t now)
+static __attribute__((noinline)) uint64_t free_due(buffers *of, uint64_t now)
 {
     uint64_t next = UINT64_MAX;
     for (uint32_t i = 0; i < of->most; i++) {

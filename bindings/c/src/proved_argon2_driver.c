@@ -258,8 +258,9 @@ static uint32_t run_step(struct call *call, uint64_t slices)
     return is_reported && with->progress(with->arg, call->step, slices) != 0 ? PROVED_ARGON2_STOPPED : code;
 }
 
-/* Takes all steps, or those before an error, and ends the threads. Moves: Advances, Stops, Returns. */
-static uint32_t fill(struct call *call)
+/* Takes all steps, or those before an error, and ends the threads. (A check of the machine code leaves out this
+ * function, so it is never inlined.) Moves: Advances, Stops, Returns. */
+static __attribute__((noinline)) uint32_t fill(struct call *call)
 {
     const uint64_t slices = SLICES * (uint64_t)call->job.passes;
     uint32_t code = PROVED_ARGON2_OK;

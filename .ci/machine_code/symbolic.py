@@ -1,0 +1,474 @@
+"""Runs a function of a linked file along each of its paths. Registers and memory contain terms of Z3 over what the
+function is passed. A branch on a term is taken both ways, if Z3 finds no contradiction to the branches before. A call
+of a function that is named as an outside one is not followed: it may return anything, may change each register that it
+need not preserve, and writes only what its prototype allows."""
+
+import copy
+import re
+from contextlib import contextmanager
+from dataclasses import dataclass, field
+from itertools import count
+
+import z3
+from terms import Fault
+
+WORD, BITS, HALF = 8, 64, 32
+RED_ZONE, MOST_JOINED, LARGEST_FRAME = 128, 16, 1 << 20  # (in bytes)
+STEPS = 20_000  # more instructions than any path has
+STACK, RETURN, RETURN_ADDRESS, ALWAYS = 'stack', z3.BitVec('return', BITS), -1, z3.BoolVal(True)
+# The structures that are passed by pointers, by their sizes in bytes: the public headers never change them.
+SIZES = {'proved_argon2_settings': 24, 'proved_argon2_limits': 24, 'proved_argon2_stored': 28, 'proved_argon2_job': 88,
+         'proved_argon2_options': 80, 'timespec': 16}
+UNITS = {'proved_argon2_block': 1024}  # (the bytes of what a length counts)
+LARGEST, MOST_SEEN = 1 << 14, 128  # of known sizes: bytes that are written one by one, and that are looked at
+# A jump, and whether it always jumps.
+JUMP = re.compile(r'(?:(jmp|b)|j\w+|b\.\w+|[ct]bn?z)\s.*?(0x[0-9a-f]+)')
+PROTOTYPE = re.compile(r'(\w[\w ]*?[ *]+)(\w+)\(([^()]*)\);')
+
+
+def number(value, width=BITS):
+    return z3.BitVecVal(value, width)
+
+
+def resized(value, width):
+    """The low bits of a value, or the value with zeros above it."""
+    size = value.size()
+    return value if size == width else z3.Extract(width - 1, 0, value) if width < size else \
+        z3.ZeroExt(width - size, value)
+
+
+def bits(value, low, width):
+    """Some bits of a value."""
+    return value if width == value.size() else z3.simplify(z3.Extract(low + width - 1, low, value))
+
+
+def runs(places):
+    """Neighbouring bytes: the region, the first byte and the number of each run."""
+    for region, offset in sorted(places):
+        if (region, offset - 1) not in places:
+            yield region, offset, next(size for size in count(1) if (region, offset + size) not in places)
+
+
+def ordered(body):
+    """The instructions of a function, each after those that lead to it, except in loops."""
+    first, done, order = min(body), set(), []
+    waiting = [(first, False)]
+    while waiting:
+        at, is_done = waiting.pop()
+        if is_done:
+            order.append(at)
+        elif at not in done and at in body:
+            done.add(at)
+            waiting.append((at, True))
+            text, size = body[at]
+            found = JUMP.fullmatch(text)
+            if not (text.startswith('ret') or found and found[1]):
+                waiting.append((at + size, False))
+            if found:
+                waiting.append((int(found[2], 16), False))
+    return reversed(order)
+
+
+def is_zero(value):
+    return value == number(0, value.size())
+
+
+def compared(one, other):
+    """The conditions after a subtraction."""
+    found = {'e': one == other, 'b': z3.ULT(one, other), 'be': z3.ULE(one, other), 'l': one < other, 'le': one <= other,
+             's': one - other < 0}
+    return lambda condition: condition_of(found, condition)
+
+
+def tested(result):
+    """The conditions after an operation on bits."""
+    found = {'e': is_zero(result), 'b': z3.BoolVal(False), 'be': is_zero(result), 's': result < 0, 'l': result < 0,
+             'le': result <= 0}
+    return lambda condition: condition_of(found, condition)
+
+
+def shifted(result):
+    return lambda condition: condition_of({'e': is_zero(result), 's': result < 0}, condition)
+
+
+def added(one, result):
+    found = {'e': is_zero(result), 'b': z3.ULT(result, one), 's': result < 0}
+    return lambda condition: condition_of(found, condition)
+
+
+OPPOSITES = {'ne': 'e', 'ae': 'b', 'a': 'be', 'ge': 'l', 'g': 'le', 'ns': 's'}
+
+
+def condition_of(found, condition):
+    opposite = OPPOSITES.get(condition)
+    if (opposite or condition) not in found:
+        raise Fault(f'the condition {condition} is not known here')
+    return z3.Not(found[opposite]) if opposite else found[condition]
+
+
+def holds(path, condition):
+    if path.flags is None:
+        raise Fault('it branches on flags of which nothing is known')
+    return path.flags(condition)
+
+
+def product(one, other):
+    """Of two terms, nothing but their product's name is known."""
+    if any(z3.is_bv_value(z3.simplify(value)) for value in (one, other)):
+        return one * other
+    return unknown('product', *sorted((one, other), key=lambda value: value.get_id()))
+
+
+def unknown(name, *values):
+    return z3.Function(f'{name}{values[0].size()}', *(value.sort() for value in values), values[0].sort())(*values)
+
+
+@dataclass(frozen=True)
+class Parameter:
+    """A parameter: its name, the type that it points to or None, whether the function may write there, and its width in
+    bits."""
+    name: str
+    points_to: str
+    is_written: bool
+    width: int
+
+
+def prototypes(text):
+    """The functions that C declares in a text: by name, what each returns, and its parameters."""
+    text = re.sub(r'/\*.*?\*/|^#.*?$', '', text, flags=re.DOTALL | re.MULTILINE)
+    found = {}
+    for result, name, listed in PROTOTYPE.findall(text):
+        given = [] if listed.strip() == 'void' else listed.split(',')
+        parameters = []
+        for one in given:
+            *kind, called = re.findall(r'\w+|\*', one.split('[')[0])
+            is_pointer = '*' in kind or '[' in one
+            target = [word for word in kind if word not in {'const', 'struct', '*'}][-1] if is_pointer else None
+            width = HALF if not is_pointer and {'int', 'uint32_t'} & {*kind} else BITS
+            parameters.append(Parameter(called, target, is_pointer and 'const' not in kind, width))
+        found[name] = result.split()[-1], parameters
+    return found
+
+
+@dataclass
+class Call:
+    """A call of an outside function: its arguments by name, what it returned, what was in the structures that it was
+    passed, and what it left in those that it wrote."""
+    name: str
+    arguments: dict
+    result: object
+    passed: dict = field(default_factory=dict)
+    left: dict = field(default_factory=dict)
+
+    def __getattr__(self, name):
+        try:
+            return self.__dict__['arguments'][name]
+        except KeyError:
+            raise AttributeError(name) from None
+
+
+@dataclass(frozen=True)
+class Write:
+    """Bytes that were written: where they begin, how many they are, and who wrote them."""
+    begin: object
+    size: object
+    by: str
+
+
+class Run:
+    """A run of a function up to some instruction."""
+
+    def __init__(self, registers):
+        self.registers, self.memory, self.flags, self.conditions, self.events = dict(registers), {}, None, [], []
+        self.at, self.after, self.returns, self.steps = 0, 0, (), 0
+
+    def fork(self):
+        other = copy.copy(self)
+        other.registers, other.memory = dict(self.registers), dict(self.memory)
+        other.conditions, other.events = list(self.conditions), list(self.events)
+        return other
+
+    def meets(self, other):
+        """Whether two paths are at the same place, after the same calls."""
+        return (self.at, self.returns) == (other.at, other.returns) and len(self.events) == len(other.events) \
+            and all(one is another for one, another in zip(self.events, other.events))
+
+    def calls(self, *names):
+        return [event for event in self.events if isinstance(event, Call) and event.name in names]
+
+    def writes(self):
+        return [event for event in self.events if isinstance(event, Write)]
+
+
+class Machine:
+    """A processor that runs a file's functions. A machine's class says in which registers integers are passed and
+    returned, which of them a function preserves, and where on the stack further arguments begin."""
+    arguments, result, stack_pointer, saved, others, vectors = (), '', '', (), (), ()
+
+    def __init__(self, code, outside, effects=None):
+        self.code, self.outside, self.effects, self.solver = code, outside, effects or {}, z3.Solver()
+        self.fresh_names, self.bases, self.ranks = 0, {}, {}
+        self.addresses = {}
+        for begin, name in code.names.items():
+            self.addresses.setdefault(name, begin)
+
+    # ---- terms
+
+    def fresh(self, name, width=BITS):
+        self.fresh_names += 1
+        return z3.BitVec(f'{name}#{self.fresh_names}', width)
+
+    def proves(self, claim):
+        """Whether a claim is true on the present path, for all values."""
+        claim = z3.simplify(claim)
+        if z3.is_true(claim):
+            return True
+        return self.solver.check(z3.Not(claim)) == z3.unsat
+
+    def width(self, register):
+        return 2 * BITS if register in self.vectors else BITS
+
+    # ---- memory
+
+    def place(self, address):
+        """An address as a region and an offset in it. A region's name is the term of where it begins."""
+        address = z3.simplify(address)
+        if z3.is_bv_value(address):
+            return '', address.as_long()
+        offset = 0
+        if address.decl().kind() == z3.Z3_OP_BADD and z3.is_bv_value(address.arg(0)):
+            offset, terms = address.arg(0).as_signed_long(), address.children()[1:]
+            address = terms[0] if len(terms) == 1 else z3.Sum(terms)
+        return self.name_of(address), offset
+
+    def name_of(self, base):
+        key = base.get_id()
+        if key not in self.bases:
+            self.bases[key] = base, base.sexpr()  # (which keeps the term, and so its number)
+        return self.bases[key][1]
+
+    def initial(self, region, offset):
+        """A byte that nobody wrote: a constant of the file, or a part of a variable."""
+        at = self.code.place(offset) if region == '' else None
+        if at is not None:
+            return number(self.code.content[at], 8), 0
+        return z3.BitVec(f'{region}[{offset // WORD * WORD}]', BITS), offset % WORD
+
+    def load(self, path, address, size):
+        if choice := self.choice(address):
+            return z3.simplify(z3.If(choice[0], *(self.load(path, other, size) for other in choice[1:])))
+        return self.loaded(path, self.place(address), size)
+
+    @staticmethod
+    def choice(address):
+        """Of an address that depends on a condition: the condition, and both addresses; or None."""
+        terms = address.children() if address.decl().kind() == z3.Z3_OP_BADD else [address]
+        chosen = next((term for term in terms if term.decl().kind() == z3.Z3_OP_ITE), None)
+        if chosen is None:
+            return None
+        condition, *others = chosen.children()
+        return condition, *(z3.simplify(z3.substitute(address, (chosen, other))) for other in others)
+
+    def loaded(self, path, place, size):
+        region, offset = place
+        pieces = []  # (from the lowest on: a value, its first byte, and how many)
+        for at in range(offset, offset + size):
+            value, index = path.memory.get((region, at)) or self.initial(region, at)
+            last, begin, count = pieces[-1] if pieces else (None, 0, 0)
+            if last is not None and begin + count == index and (last is value or last.eq(value)):
+                pieces[-1][2] += 1
+            else:
+                pieces.append([value, index, 1])
+        found = [bits(value, 8 * index, 8 * count) for value, index, count in reversed(pieces)]
+        return z3.simplify(z3.Concat(*found)) if len(found) > 1 else found[0]
+
+    def put(self, path, address, value):
+        if self.choice(address):
+            raise Fault('it writes where a condition says')
+        return self.put_at(path, self.place(address), value)
+
+    @staticmethod
+    def put_at(path, place, value):
+        region, offset = place
+        for index in range(value.size() // 8):
+            path.memory[region, offset + index] = value, index
+        return region
+
+    def store(self, path, address, value):
+        if self.put(path, address, value) != STACK:
+            path.events.append(Write(address, number(value.size() // 8), 'code'))
+
+    @staticmethod
+    def size_of(parameter, arguments):
+        """How many bytes a function may read or write at a pointer: a number, a term, or None if that is not known."""
+        if parameter.points_to in SIZES:
+            return SIZES[parameter.points_to]
+        length = arguments.get(f'{parameter.name}_len')
+        if length is None:
+            return None
+        length = z3.simplify(length * UNITS.get(parameter.points_to, 1))
+        return length.as_long() if z3.is_bv_value(length) and 0 < length.as_long() <= LARGEST else length
+
+    def fill(self, path, call, name, size):
+        """An outside function writes anything to what it was passed under a name."""
+        if isinstance(size, int):
+            call.left[name] = self.fresh(f'{call.name} {name}', 8 * size)
+            self.put(path, call.arguments[name], call.left[name])
+        path.events.append(Write(call.arguments[name], number(size) if isinstance(size, int) else size, call.name))
+
+    # ---- running
+
+    def paths(self, name, prepare=lambda path, arguments: []):
+        """Each path of a function to its end, with what it is passed: variables by the names of its parameters. What is
+        proved meanwhile is proved for this path. `prepare` returns what is assumed."""
+        kind, parameters = self.outside[name]
+        path = Run({register: z3.BitVec(f'first {register}', self.width(register))
+                    for register in (*self.saved, *self.others)})
+        path.registers[self.stack_pointer] = z3.BitVec(STACK, BITS)
+        given = {parameter.name: z3.BitVec(parameter.name, BITS) for parameter in parameters}
+        hidden = [z3.BitVec('hidden', BITS)] if kind in SIZES else []
+        self.enter(path, list(given.values()), *hidden)
+        given |= dict.fromkeys(['hidden'] * len(hidden), *hidden)
+        path.at, first = self.begin(name), dict(path.registers)
+        stack = path.registers[self.stack_pointer]
+        with self.assumed([z3.ULT(LARGEST_FRAME, stack), z3.ULT(stack, -LARGEST_FRAME), *prepare(path, given)]):
+            for end in self.ends(path):
+                changed = [register for register in self.saved if not end.registers[register].eq(first[register])]
+                if changed:
+                    raise Fault(f'it does not restore {", ".join(changed)}')
+                yield end, given
+
+    def begin(self, name):
+        if name not in self.addresses:
+            raise Fault(f'there is no function {name}')
+        return self.addresses[name]
+
+    def ends(self, first):
+        """The ends of all paths. Paths that meet, and that made the same calls, are joined. So the one that is furthest
+        behind goes on: that in the innermost call, and there by the order of the instructions."""
+        pending = [first]
+        while pending:
+            path = min(pending, key=lambda one: (-len(one.returns), self.rank(one.at)))
+            pending.remove(path)
+            if path.at == RETURN_ADDRESS:
+                with self.assumed(path.conditions):
+                    yield path
+                continue
+            path.steps += 1
+            if path.steps > STEPS:
+                raise Fault(f'it has not returned after {STEPS} instructions')
+            for way in self.step(path):
+                if not any(self.join(other, way) for other in pending if other.meets(way)):
+                    pending.append(way)
+
+    @contextmanager
+    def assumed(self, conditions):
+        self.solver.push()
+        self.solver.add(*conditions)
+        yield
+        self.solver.pop()
+
+    def rank(self, address):
+        """An instruction's place in its function, in an order in which those before it come first (but for loops)."""
+        if address != RETURN_ADDRESS and address not in self.ranks:
+            self.ranks.update({at: index for index, at in enumerate(ordered(self.body_of(address)))})
+        return self.ranks.get(address, 0)
+
+    def body_of(self, address):
+        """The instructions of the function that has this one."""
+        return self.code.bodies[max(begin for begin in self.code.bodies if begin <= address)]
+
+    def join(self, one, other):
+        """Makes one path of two that met, if their memory differs in few bytes. Returns whether it did."""
+        _, lowest = self.place(one.registers[self.stack_pointer])
+        places = {place for place in {**one.memory, **other.memory}
+                  if not (place[0] == STACK and place[1] < lowest - RED_ZONE) and self.differ(one, other, place)}
+        if len(places) > MOST_JOINED:
+            return False
+        count = next((at for at, pair in enumerate(zip(one.conditions, other.conditions)) if not pair[0].eq(pair[1])),
+                     min(len(one.conditions), len(other.conditions)))
+        is_one, is_other = (z3.And(*path.conditions[count:]) for path in (one, other))
+
+        def either(first, second):
+            return first if first.eq(second) else z3.simplify(z3.If(is_one, first, second))
+        for region, offset, size in runs(places):
+            self.put_at(one, (region, offset), either(*(self.loaded(path, (region, offset), size)
+                                                        for path in (one, other))))
+        one.registers = {name: either(value, other.registers[name]) for name, value in one.registers.items()}
+        if one.flags is not other.flags:
+            flags = one.flags, other.flags
+            one.flags = None if None in flags else lambda condition: z3.If(is_one, *(of(condition) for of in flags))
+        one.conditions[count:] = [z3.simplify(z3.Or(is_one, is_other))]
+        return True
+
+    def differ(self, one, other, place):
+        """Whether two paths have different bytes at a place."""
+        values = [path.memory.get(place) for path in (one, other)]
+        if values[0] is values[1]:
+            return False
+        (first, index), (second, at) = (value or self.initial(*place) for value in values)
+        return index != at or not (first is second or first.eq(second))
+
+    def step(self, path):
+        """Takes an instruction, or a call of an outside function. Returns where the path goes on."""
+        name, _, is_elsewhere = self.code.names.get(path.at, '').partition('@')
+        if name in self.outside and path.steps > 1:
+            path.at = self.number_of(self.return_address(path))
+            self.call(path, name)
+            path.returns = path.returns[:-1]
+            return [path]
+        if is_elsewhere:  # (the linker's table leads to it)
+            path.at = self.begin(name)
+            return [path]
+        if path.at not in self.code.instructions:
+            raise Fault(f'it calls {name or hex(path.at)}, of which nothing is known')
+        text, size = self.code.instructions[path.at]
+        path.after = path.at + size
+        condition, target = self.decode(text)(self, path) or (z3.BoolVal(False), number(0))
+        condition = z3.simplify(condition)
+        if z3.is_true(condition) or z3.is_false(condition):
+            path.at = self.number_of(target) if z3.is_true(condition) else path.after
+            return [path]
+        other = path.fork()
+        path.conditions.append(condition)
+        path.at = self.number_of(target)
+        other.conditions.append(z3.simplify(z3.Not(condition)))
+        other.at = path.after
+        return [way for way in (path, other) if self.is_possible(way)]
+
+    def is_possible(self, path):
+        with self.assumed(path.conditions):
+            return self.solver.check() != z3.unsat
+
+    def number_of(self, target):
+        target = z3.simplify(target)
+        if z3.is_bv_value(target):
+            return target.as_long()
+        if target.eq(RETURN):
+            return RETURN_ADDRESS
+        raise Fault('it jumps to what it computed')
+
+    def call(self, path, name):
+        """Calls an outside function."""
+        kind, parameters = self.outside[name]
+        values = self.passed(path, len(parameters))
+        arguments = {parameter.name: value for parameter, value in zip(parameters, values)}
+        call = Call(name, arguments, self.fresh(name))
+        sizes = {parameter: self.size_of(parameter, arguments) for parameter in parameters if parameter.points_to}
+        call.passed = {parameter.name: self.load(path, arguments[parameter.name], size)
+                       for parameter, size in sizes.items() if isinstance(size, int) and size <= MOST_SEEN}
+        path.events.append(call)
+        for parameter, size in sizes.items():
+            if parameter.is_written and size is not None:
+                self.fill(path, call, parameter.name, size)
+        hidden = call.arguments['hidden'] = self.hidden(path) if kind in SIZES else None
+        for register in self.others:
+            path.registers[register] = self.fresh(register, self.width(register))
+        path.registers[self.result] = call.result
+        if hidden is not None:
+            call.left['result'] = self.fresh(name, 8 * SIZES[kind])
+            self.put(path, hidden, call.left['result'])
+            path.registers[self.result] = hidden
+        path.flags = None
+        if name in self.effects:
+            self.effects[name](self, path, call)
