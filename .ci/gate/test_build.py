@@ -81,7 +81,7 @@ def copy_parts(folder, *names):
 
 def test_release_is_built_in_a_folder_that_has_only_its_sources(tmp_path):
     """Other files among them take no part, and neither does the environment. A stand-in for the build notes what it
-    sees."""
+    sees, and one for the toolchain does nothing."""
     copy_parts(tmp_path, 'VERSION', 'build', 'bindings', 'crates', 'crates.txt')
     for name in PLANTED:
         (tmp_path / name).parent.mkdir(parents=True, exist_ok=True)
@@ -90,7 +90,8 @@ def test_release_is_built_in_a_folder_that_has_only_its_sources(tmp_path):
     (tmp_path / 'build/make').write_text(
         f'#!/bin/sh\nenv >{tmp_path}/environment\ncd "$(dirname "$0")/.."\n'
         f'find . ! -type d -printf "%P\\n" >{tmp_path}/seen\nexit 1\n', encoding='utf-8')
-    assert run('env', 'CPATH=/planted', tmp_path / 'build/release').returncode == 1
+    (tmp_path / 'rt').symlink_to('/bin/true')
+    assert run('env', 'CPATH=/planted', f'PATH={tmp_path}:/usr/bin:/bin', tmp_path / 'build/release').returncode == 1
     seen = {*(tmp_path / 'seen').read_text(encoding='utf-8').splitlines()}
     assert {'build/make', 'crates/argon2_c/src/lib.rt', 'bindings/c/src/driver.h', 'VERSION'} <= seen
     assert sorted(seen & {*PLANTED, 'bindings/c/src/link.h'}) == []

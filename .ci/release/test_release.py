@@ -203,6 +203,12 @@ def test_what_only_the_listed_versions_link_is_named(compared, copy, tmp_path):
     assert re.findall(r'/release/(\S+) differ', ran.stdout) == ['x86_64/argon2'] and ran.returncode == 3
 
 
+@needs_root
+def test_the_comparison_asks_for_the_toolchain(copy):
+    ran = in_copy(copy, './argon2', 'prove')
+    assert ran.returncode == 1 and 'build/release: there is no rt: this takes rattle-kit-' in ran.stdout, ran.stdout
+
+
 @pytest.mark.parametrize('machine, text', [
     ('riscv64', 'install: nothing is built for riscv64: nothing is installed'),
     ('aarch64', 'this machine is x86_64, and no aarch64: nothing is installed')])
