@@ -40,3 +40,17 @@ fn fill(salt: &mut [u8; SALT_SIZE]) -> bool {
     };
     status == 0
 }
+
+#[cfg(test)]
+mod tests {
+    use super::{new_salt, SALT_SIZE};
+
+    /// All eight salts have the same byte somewhere only once in 2^52 times.
+    #[test]
+    fn each_byte_of_a_salt_is_random() {
+        let salts: Vec<_> = (0..8).map(|_| new_salt().unwrap()).collect();
+        for at in 0..SALT_SIZE {
+            assert!(salts.iter().any(|salt| salt[at] != salts[0][at]), "byte {at}");
+        }
+    }
+}

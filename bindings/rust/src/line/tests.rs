@@ -42,7 +42,9 @@ fn no_more_callers_compute_or_wait_than_the_line_allows() {
                 }
             });
         }
+        let begun = Instant::now();
         while busy.load(SeqCst) < 3 {
+            assert!(begun.elapsed() < Duration::from_secs(60), "more callers wait than may");
             thread::yield_now();
         }
         drop(held);
