@@ -159,6 +159,13 @@ def first_lines(page, count=5):
     return lines
 
 
+def serves(*words, **named):
+    """Runs a service. A user's name tries to forge a log line: the log contains it, but not as a line."""
+    done = start(*words, **named)
+    assert done.returncode == 0, done.stderr[-9000:]
+    assert "logged in: root" in done.stderr and not re.search(r"^(INFO:root:)?logged in: root", done.stderr, re.M)
+
+
 def with_crate(*features):
     """Returns the line of a manifest that names the crate as a dependency."""
     return f'argon2 = {{ package = "proved-argon2", path = "{TOP}/bindings/rust", features = {[*features]} }}\n'

@@ -1,15 +1,13 @@
-"""The code of the pages works: their first lines, the PHP code of docs/USE.md, and docs/examples, under more logins at
-once than they have places for. The manual pages and the help agree with the header, the library and the program. (A
-script writes the errors and limits in them.)"""
+"""The code of the pages works: the first lines for C and the shell, the PHP code of docs/USE.md, and the service in C,
+under more logins at once than it has places for. The manual pages and the help agree with the header, the library and
+the program. (A script writes the errors and limits in them.)"""
 import os
 import re
-import shutil
 
 import pytest
 from commands import COSTLY, STORED, TOOL, numbers, piped
-from running import CC, MACHINE, TOP, first_lines, flags_of, needs, project, run, start
+from running import CC, MACHINE, TOP, first_lines, flags_of, needs, run, serves
 
-BINDINGS, EXAMPLES = TOP / "bindings", TOP / "docs/examples"
 # A bcrypt hash, and an Argon2 hash with other settings, are renewed only at a login with the right password.
 PHP = """<?php
 function log_in($stored, $password) {
@@ -33,56 +31,6 @@ def test_the_lines_for_c_run(installed, tmp_path):
     run(tmp_path / "quick_start", env={"LD_LIBRARY_PATH": installed / "lib"})
 
 
-@needs("cargo")
-def test_the_lines_for_rust_run(built, cargo, tmp_path):
-    (line,) = re.findall(r"^argon2 = { package.*", (TOP / "docs/RUST.md").read_text(), re.M)[:1]
-    main = f"fn main() -> Result<(), Box<dyn std::error::Error>> {{\n{first_lines('RUST.md')}Ok(()) }}\n"
-    project(tmp_path / "lines", main, line.replace("../argon2", str(TOP)))
-    run("cargo", "run", "--offline", "--quiet", cwd=tmp_path / "lines", env=cargo)
-
-
-def test_the_lines_for_python_run(installed):
-    run("python3", "-B", "-c", first_lines("PYTHON.md"),
-        env={"PYTHONPATH": TOP / "bindings/python/src", "LD_LIBRARY_PATH": installed / "lib"})
-
-
-# Runs after the code of the page for Python: the page's coroutines return what it says.
-AFTER_THE_PAGE = """
-import asyncio
-
-async def serve():
-    assert await log_in("ada", password) is True and await log_in("ada", "wrong") is False
-    assert await log_in("nobody", password) is False
-    assert await log_in_with_pepper(*peppered.hash(password), password) == (True, None)
-    answers = await asyncio.gather(*[log_in("ada", password) for _ in range(69)], return_exceptions=True)
-    assert answers[:68] == [True] * 68 and type(answers[68]).__name__ == "BusyError"
-    assert (await tune_while_serving()).memory_cost <= 65536
-
-assert is_match and new is None and not hasher.verify_and_update(stored, password, associated_data=b"user 8")[0]
-assert key_id == "2026" and 0 < tuning.milliseconds <= 250
-asyncio.run(serve())
-"""
-
-
-def test_all_code_of_the_page_for_python_runs(installed):
-    pieces = re.findall(r"^```python\n(.*?)^```", (TOP / "docs/PYTHON.md").read_text(), re.M | re.S)
-    assert len(pieces) == 6
-    # On a busy machine no settings may take at most 250 ms.
-    code = "".join([*pieces, AFTER_THE_PAGE]).replace("(250, ", "(25000, ").replace("<= 250", "<= 25000")
-    run("python3", "-B", "-c", code, env={
-        "PYTHONPATH": TOP / "bindings/python/src", "LD_LIBRARY_PATH": installed / "lib"})
-
-
-def test_the_row_of_python_works_where_python_takes_no_packages_outside_of_an_environment(tmp_path):
-    (row,) = re.findall(r"^\| \[Python\].*\| `([^`]*)` \| `[^`]*` \|$", (TOP / "README.md").read_text(), re.M)
-    assert "pip install" in row
-    (tmp_path / "lines").write_text(first_lines("PYTHON.md"))
-    # hatchling is Debian's, since there is no network.
-    run("bash", "-c", f'{row} && python "$HOME/lines"', env={
-        "HOME": tmp_path, "PIP_CONFIG_FILE": None, "PIP_NO_BUILD_ISOLATION": "no",
-        "PYTHONPATH": "/usr/lib/python3/dist-packages"})
-
-
 def test_the_lines_for_the_shell_run(installed):
     lines = first_lines("SHELL.md").replace("tune 250", "tune 25000")  # on a busy machine, no settings may take 250 ms
     said = run("sh", "-c", lines, env={"PATH": f"{installed}/bin:{os.environ['PATH']}", "password": "secret"})
@@ -95,31 +43,10 @@ def test_the_lines_for_php_move_a_hash_to_argon2():
     assert run("php", input=PHP % lines) == "moves\nmoves\n"
 
 
-def serves(*words, **named):
-    """Runs a service. A user's name tries to forge a log line: the log contains it, but not as a line."""
-    done = start(*words, **named)
-    assert done.returncode == 0, done.stderr[-9000:]
-    assert "logged in: root" in done.stderr and not re.search(r"^(INFO:root:)?logged in: root", done.stderr, re.M)
-
-
 def test_the_service_in_c(built, tmp_path):
-    run(CC, "-std=gnu11", "-Wall", "-Wextra", "-Werror", "-O1", "-I", "bindings/c/include", "-I", EXAMPLES,
-        BINDINGS / "c/tests/service.c", built / MACHINE / "libproved_argon2.a", "-pthread", "-o", tmp_path / "service")
+    run(CC, "-std=gnu11", "-Wall", "-Wextra", "-Werror", "-O1", "-I", "bindings/c/include", "-I", "docs/examples",
+        "bindings/c/tests/service.c", built / MACHINE / "libproved_argon2.a", "-pthread", "-o", tmp_path / "service")
     serves(tmp_path / "service")
-
-
-@needs("cargo")
-def test_the_service_in_rust(built, cargo, tmp_path):
-    folder = project(tmp_path / "service", (BINDINGS / "rust/tests/programs/service.rs").read_text())
-    shutil.copy(EXAMPLES / "log_in.rs", folder / "src")
-    serves("cargo", "run", "--offline", "--quiet", cwd=folder, env={
-        **cargo, "PATH": f"/usr/bin:{os.environ['PATH']}", "PROVED_ARGON2_LIB_DIR": built / MACHINE})
-
-
-def test_the_service_in_python(installed):
-    serves("python3", "-B", BINDINGS / "python/tests/service.py", env={
-        "PEPPER": "pepper", "PYTHONPATH": f"{TOP}/bindings/python/src:{EXAMPLES}",
-        "PROVED_ARGON2_LIBRARY": installed / "lib/libproved_argon2.so.1"})
 
 
 # ---- the manual pages and the help

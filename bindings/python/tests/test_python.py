@@ -6,7 +6,7 @@ import tarfile
 import zipfile
 
 import pytest
-from running import CC, MACHINE, TOP, VERSION, fetch, needs, run, start
+from running import CC, MACHINE, TOP, VERSION, fetch, first_lines, needs, run, serves, start
 
 PACKAGE, SONAME = TOP / "bindings/python", f"libproved_argon2.so.{VERSION.split('.')[0]}"
 TESTS = PACKAGE / "tests"
@@ -176,3 +176,47 @@ def test_mypy_accepts_the_package_and_rejects_a_wrong_call(tmp_path):
 
 def test_the_system_s_loader_finds_the_library(installed, site):
     run(PYTHON, "-c", HASHES, env={"PYTHONPATH": site, "LD_LIBRARY_PATH": installed / "lib"})
+
+
+# ---- the page
+
+# Runs after the code of the page for Python: the page's coroutines return what it says.
+AFTER_THE_PAGE = """
+import asyncio
+
+async def serve():
+    assert await log_in("ada", password) is True and await log_in("ada", "wrong") is False
+    assert await log_in("nobody", password) is False
+    assert await log_in_with_pepper(*peppered.hash(password), password) == (True, None)
+    answers = await asyncio.gather(*[log_in("ada", password) for _ in range(69)], return_exceptions=True)
+    assert answers[:68] == [True] * 68 and type(answers[68]).__name__ == "BusyError"
+    assert (await tune_while_serving()).memory_cost <= 65536
+
+assert is_match and new is None and not hasher.verify_and_update(stored, password, associated_data=b"user 8")[0]
+assert key_id == "2026" and 0 < tuning.milliseconds <= 250
+asyncio.run(serve())
+"""
+
+
+def test_all_code_of_the_page_runs(with_library):
+    pieces = re.findall(r"^```python\n(.*?)^```", (TOP / "docs/PYTHON.md").read_text(), re.M | re.S)
+    assert len(pieces) == 6
+    # On a busy machine no settings may take at most 250 ms.
+    code = "".join([*pieces, AFTER_THE_PAGE]).replace("(250, ", "(25000, ").replace("<= 250", "<= 25000")
+    run(PYTHON, "-c", code, env=with_library)
+
+
+def test_the_row_of_readme_works_where_python_takes_no_packages_outside_of_an_environment(tmp_path):
+    (row,) = re.findall(r"^\| \[Python\].*\| `([^`]*)` \| `[^`]*` \|$", (TOP / "README.md").read_text(), re.M)
+    assert "pip install" in row
+    (tmp_path / "lines").write_text(first_lines("PYTHON.md"))
+    # hatchling is Debian's, since there is no network.
+    run("bash", "-c", f'{row} && python "$HOME/lines"', env={
+        "HOME": tmp_path, "PIP_CONFIG_FILE": None, "PIP_NO_BUILD_ISOLATION": "no",
+        "PYTHONPATH": "/usr/lib/python3/dist-packages"})
+
+
+def test_the_service(with_library):
+    """More clients log in at once than there are places."""
+    path = f"{with_library['PYTHONPATH']}:{TOP}/docs/examples"
+    serves(PYTHON, TESTS / "service.py", env={**with_library, "PEPPER": "pepper", "PYTHONPATH": path})

@@ -10,8 +10,9 @@ import shutil
 import textwrap
 
 import pytest
-from running import CC, CODES, CRATES_OF_DEBIAN, HEADER, MACHINE, MEMORIES, NUMBERS, TOP, built as built_part
-from running import fetch, is_without_kernels, linked_without_kernels, needs, project, refuses, run, start, with_crate
+from running import CC, CODES, CRATES_OF_DEBIAN, HEADER, MACHINE, MEMORIES, NUMBERS, TOP, built as built_part, fetch
+from running import first_lines, is_without_kernels, linked_without_kernels, needs, project, refuses, run, serves, start
+from running import with_crate
 
 CRATE, SOURCES = TOP / "bindings/rust", TOP / "bindings/rust/tests/programs"
 REGISTRY = pathlib.Path("/usr/share/cargo/registry")
@@ -349,6 +350,20 @@ def test_the_tests_of_rust_argon2_pass(cargo, tmp_path):
     words = "--offline", "--release", "--test", "integration_test", "--", "--test-threads", "2"
     said = run("cargo", "test", *words, cwd=folder, env=cargo)
     assert "test result: ok. 65 passed; 0 failed; 0 ignored" in said
+
+
+def test_the_first_lines_of_the_page_run(cargo, tmp_path):
+    (line,) = re.findall(r"^argon2 = { package.*", PAGE, re.M)[:1]
+    main = f"fn main() -> Result<(), Box<dyn std::error::Error>> {{\n{first_lines('RUST.md')}Ok(()) }}\n"
+    project(tmp_path / "lines", main, line.replace("../argon2", str(TOP)))
+    run(*RUN, cwd=tmp_path / "lines", env=cargo)
+
+
+def test_the_service(cargo, tmp_path):
+    """More clients log in at once than there are places."""
+    folder = project(tmp_path / "service", (SOURCES / "service.rs").read_text())
+    shutil.copy(TOP / "docs/examples/log_in.rs", folder / "src")
+    serves(*RUN, cwd=folder, env={**cargo, "PATH": f"/usr/bin:{os.environ['PATH']}"})
 
 
 def test_the_page_has_the_arguments_of_the_calls():
