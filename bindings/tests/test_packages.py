@@ -152,13 +152,15 @@ def test_packages_made_elsewhere_by_another_user_have_the_same_bytes(tagged, pac
     assert read(home / 'made/SHA256SUMS') == read(packages / 'SHA256SUMS')
 
 
-# Each of these changes to the repository of a release is a reason why `./package --release` makes nothing.
+# Each of these changes to the repository of a release is a reason why `./package --release` makes nothing. (No package
+# contains the DLL, and what is packed of its folder could also be built.)
+DLL = 'windows-x86_64/proved_argon2.dll'
 UNRELEASED = {
     'another commit': ('git commit -q --allow-empty -m more', f'the tag v{VERSION} does not name this commit'),
     'no signature': (f'git tag -f -a -m more v{VERSION}', f'the tag v{VERSION} has no signature'),
     'a new file': ('git config status.showUntrackedFiles no; touch more', 'a file is not committed'),
-    'another file': (f'echo >>release/portable/module_code.h; git commit -qam more; git tag -f -s -m more v{VERSION}',
-                     'release/portable/module_code.h is not the file that release/MANIFEST names'),
+    'another DLL': (f'echo >>release/{DLL}; git commit -qam more; git tag -f -s -m more v{VERSION}',
+                    f'release/{DLL} is not the file that release/MANIFEST names'),
     'a wrong page': ('mkdir out; touch out/wrong', 'tests of pages: --documents'),
     'one kind': ('set -- go', '--release makes all kinds'),
     'another release': ('mkdir "$0"; touch "$0/old"', '/made is not empty')}
