@@ -11,6 +11,7 @@ from itertools import count
 
 import z3
 from terms import Fault
+from z3.z3util import get_vars
 
 WORD, BITS, HALF = 8, 64, 32
 RED_ZONE, MOST_JOINED, LARGEST_FRAME = 128, 16, 1 << 20  # (in bytes)
@@ -69,6 +70,11 @@ def ordered(body):
     return reversed(order)
 
 
+def variables(term):
+    """The names of a term's variables."""
+    return {str(variable) for variable in get_vars(z3.simplify(term))}
+
+
 def is_zero(value):
     return value == number(0, value.size())
 
@@ -80,26 +86,16 @@ def compared(one, other):
     return lambda condition: condition_of(found, condition)
 
 
-def tested(result):
-    """The conditions after an operation on bits."""
-    found = {'e': is_zero(result), 'b': z3.BoolVal(False), 'be': is_zero(result), 's': result < 0, 'l': result < 0,
-             'le': result <= 0}
-    return lambda condition: condition_of(found, condition)
-
-
 def shifted(result):
+    """The conditions after operations whose carry is not looked at."""
     return lambda condition: condition_of({'e': is_zero(result), 's': result < 0}, condition)
-
-
-def added(one, result):
-    found = {'e': is_zero(result), 'b': z3.ULT(result, one), 's': result < 0}
-    return lambda condition: condition_of(found, condition)
 
 
 OPPOSITES = {'ne': 'e', 'ae': 'b', 'a': 'be', 'ge': 'l', 'g': 'le', 'ns': 's'}
 
 
 def condition_of(found, condition):
+    """One of the conditions that are known."""
     opposite = OPPOSITES.get(condition)
     if (opposite or condition) not in found:
         raise Fault(f'the condition {condition} is not known here')
@@ -107,6 +103,7 @@ def condition_of(found, condition):
 
 
 def holds(path, condition):
+    """Whether a condition holds, by the flags of a path."""
     if path.flags is None:
         raise Fault('it branches on flags of which nothing is known')
     return path.flags(condition)
@@ -120,6 +117,7 @@ def product(one, other):
 
 
 def unknown(name, *values):
+    """A function of which nothing is known."""
     return z3.Function(f'{name}{values[0].size()}', *(value.sort() for value in values), values[0].sort())(*values)
 
 
@@ -180,9 +178,10 @@ class Run:
 
     def __init__(self, registers):
         self.registers, self.memory, self.flags, self.conditions, self.events = dict(registers), {}, None, [], []
-        self.at, self.after, self.returns, self.steps = 0, 0, (), 0
+        self.at, self.after, self.returns, self.steps, self.unknown = 0, 0, (), 0, frozenset()
 
     def fork(self):
+        """Another run that goes on from here."""
         other = copy.copy(self)
         other.registers, other.memory = dict(self.registers), dict(self.memory)
         other.conditions, other.events = list(self.conditions), list(self.events)
@@ -193,6 +192,11 @@ class Run:
         return (self.at, self.returns) == (other.at, other.returns) and len(self.events) == len(other.events) \
             and all(one is another for one, another in zip(self.events, other.events))
 
+    def write(self, begin, size, by):
+        """Notes that bytes were written whose values are not known: they cannot be read."""
+        self.events.append(Write(begin, size, by))
+        self.unknown |= variables(begin)
+
     def calls(self, *names):
         return [event for event in self.events if isinstance(event, Call) and event.name in names]
 
@@ -200,15 +204,14 @@ class Run:
         return [event for event in self.events if isinstance(event, Write)]
 
 
-class Machine:
-    """A processor that runs a file's functions. A machine's class says in which registers integers are passed and
-    returned, which of them a function preserves, and where on the stack further arguments begin."""
+class Processor:
+    """A processor that runs a file's functions. A class for a machine says in which registers integers are passed and
+    returned, which registers a function preserves, which others there are, and which of those are vectors."""
     arguments, result, stack_pointer, saved, others, vectors = (), '', '', (), (), ()
 
     def __init__(self, code, outside, effects=None):
         self.code, self.outside, self.effects, self.solver = code, outside, effects or {}, z3.Solver()
-        self.fresh_names, self.bases, self.ranks = 0, {}, {}
-        self.addresses = {}
+        self.fresh_names, self.regions, self.terms, self.ranks, self.addresses = 0, {}, {}, {}, {}
         for begin, name in code.names.items():
             self.addresses.setdefault(name, begin)
 
@@ -243,9 +246,10 @@ class Machine:
 
     def name_of(self, base):
         key = base.get_id()
-        if key not in self.bases:
-            self.bases[key] = base, base.sexpr()  # (which keeps the term, and so its number)
-        return self.bases[key][1]
+        if key not in self.regions:
+            self.regions[key] = base.sexpr()
+            self.terms[self.regions[key]] = base  # (which keeps the term, and so its number)
+        return self.regions[key]
 
     def initial(self, region, offset):
         """A byte that nobody wrote: a constant of the file, or a part of a variable."""
@@ -271,6 +275,8 @@ class Machine:
 
     def loaded(self, path, place, size):
         region, offset = place
+        if region and path.unknown & variables(self.terms[region]):
+            raise Fault(f'it reads what a call wrote to {self.terms[region]}')
         pieces = []  # (from the lowest on: a value, its first byte, and how many)
         for at in range(offset, offset + size):
             value, index = path.memory.get((region, at)) or self.initial(region, at)
@@ -311,10 +317,13 @@ class Machine:
 
     def fill(self, path, call, name, size):
         """An outside function writes anything to what it was passed under a name."""
+        begin = call.arguments[name]
         if isinstance(size, int):
             call.left[name] = self.fresh(f'{call.name} {name}', 8 * size)
-            self.put(path, call.arguments[name], call.left[name])
-        path.events.append(Write(call.arguments[name], number(size) if isinstance(size, int) else size, call.name))
+            self.put(path, begin, call.left[name])
+            path.events.append(Write(begin, number(size), call.name))
+        else:
+            path.write(begin, size, call.name)
 
     # ---- running
 
@@ -332,11 +341,15 @@ class Machine:
         path.at, first = self.begin(name), dict(path.registers)
         stack = path.registers[self.stack_pointer]
         with self.assumed([z3.ULT(LARGEST_FRAME, stack), z3.ULT(stack, -LARGEST_FRAME), *prepare(path, given)]):
+            ends = 0
             for end in self.ends(path):
+                ends += 1
                 changed = [register for register in self.saved if not end.registers[register].eq(first[register])]
                 if changed:
                     raise Fault(f'it does not restore {", ".join(changed)}')
                 yield end, given
+            if not ends:
+                raise Fault('it never returns')
 
     def begin(self, name):
         if name not in self.addresses:

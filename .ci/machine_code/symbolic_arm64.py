@@ -6,7 +6,7 @@ import re
 
 import z3
 from machine import parts
-from symbolic import (ALWAYS, BITS, HALF, RETURN, WORD, Machine, bits, compared, condition_of, holds, is_zero, number,
+from symbolic import (ALWAYS, BITS, HALF, RETURN, WORD, Processor, bits, compared, condition_of, holds, is_zero, number,
                       product, resized, shifted, unknown)
 from terms import Fault
 
@@ -18,7 +18,7 @@ CONDITIONS = {'eq': 'e', 'ne': 'ne', 'cc': 'b', 'cs': 'ae', 'hi': 'a', 'ls': 'be
               'le': 'le', 'mi': 's', 'pl': 'ns'}
 
 
-class Arm64(Machine):
+class Arm64(Processor):
     arguments, result, stack_pointer = tuple(f'x{n}' for n in range(8)), 'x0', 'sp'
     saved = tuple(f'x{n}' for n in range(19, 30))
     vectors = tuple(f'v{n}' for n in range(32))  # (of v8 to v15, functions preserve halves; the driver uses none)
@@ -219,9 +219,9 @@ def special(mnemonic, words):
             if name == 'ubfx':
                 return lambda machine, path: write(path, bits(read(path), low, width))
             return lambda machine, path: write(path, resized(bits(read(path), 0, width), operand(words[0])[2]) << low)
-        case 'movi' if words[1] == '#0x0':
-            write = set_register(f"v{words[0][1:].partition('.')[0]}")
-            return lambda machine, path: write(path, number(0, 2 * BITS))
+        case 'movi' if words[1] == '#0x0' or words[0].endswith('.16b'):
+            write, value = set_register(words[0].partition('.')[0]), number(int(words[1][1:], 0), 8)
+            return lambda machine, path: write(path, z3.Concat(*[value] * (2 * WORD)))
         case 'dup' if words[0].endswith('.2d'):
             write, read = set_register(words[0].partition('.')[0]), operand(words[1])[0]
             return lambda machine, path: write(path, z3.Concat(read(path), read(path)))

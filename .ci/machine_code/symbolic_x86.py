@@ -6,8 +6,8 @@ import re
 
 import z3
 from machine import parts
-from symbolic import (ALWAYS, BITS, RETURN, WORD, Machine, added, bits, compared, holds, number, product, resized,
-                      shifted, tested, unknown)
+from symbolic import (ALWAYS, BITS, RETURN, WORD, Processor, bits, compared, condition_of, holds, is_zero, number,
+                      product, resized, shifted, unknown)
 from terms import Fault
 
 OLD = 'ax', 'bx', 'cx', 'dx', 'si', 'di', 'bp', 'sp'
@@ -20,12 +20,12 @@ NAMES = {**{f'r{name}': (f'r{name}', 0, 64) for name in OLD}, **{f'e{name}': (f'
             for suffix, width in (('', 64), ('d', 32), ('w', 16), ('b', 8))},
          **{f'xmm{n}': (f'xmm{n}', 0, 128) for n in range(16)}}
 WIDTHS = {'BYTE': 8, 'WORD': 16, 'DWORD': 32, 'QWORD': 64, 'XMMWORD': 128}
-PLACE = re.compile(r'(?:(\w+) PTR )?(?:es:)?\[(\w+)(?:\+(\w+)\*(\d))?([+-]0x[0-9a-f]+)?\]')
+PLACE = re.compile(r'(?:(\w+) PTR )?\[(?:([a-z]\w*)(?=[+\-\]]))?(?:\+?(\w+)\*(\d))?([+-]0x[0-9a-f]+)?\]')
 # No effect on what is looked at here: registers of floating-point numbers are only cleared.
 IDLE = re.compile(r'(data16 |cs )*nop.*|endbr64|xchg +ax,ax|fldz|fstp +st\(0\)')
 
 
-class X86(Machine):
+class X86(Processor):
     arguments, result, stack_pointer = ('rdi', 'rsi', 'rdx', 'rcx', 'r8', 'r9'), 'rax', 'rsp'
     saved = 'rbx', 'rbp', 'r12', 'r13', 'r14', 'r15'
     vectors = tuple(f'xmm{n}' for n in range(16))
@@ -70,7 +70,7 @@ def address(text):
     _, base, index, scale, offset = PLACE.fullmatch(text).groups()
 
     def at(path):
-        found = number(path.after) if base == 'rip' else path.registers[base]
+        found = number(path.after if base == 'rip' else 0) if base in (None, 'rip') else path.registers[base]
         if index:
             found = found + path.registers[index] * int(scale)
         return z3.simplify(found + int(offset or '0', 16))
@@ -101,12 +101,25 @@ def operand(text, width):
         (lambda machine, path, value: machine.store(path, at(path), z3.simplify(value))), size
 
 
+def tested(result):
+    """The conditions after an operation on bits."""
+    found = {'e': is_zero(result), 'b': z3.BoolVal(False), 'be': is_zero(result), 's': result < 0, 'l': result < 0,
+             'le': result <= 0}
+    return lambda condition: condition_of(found, condition)
+
+
+def added(one, result):
+    """The conditions after a sum."""
+    found = {'e': is_zero(result), 'b': z3.ULT(result, one), 's': result < 0}
+    return lambda condition: condition_of(found, condition)
+
+
 ARITHMETIC = {
     'add': lambda x, y: (x + y, added(x, x + y)), 'sub': lambda x, y: (x - y, compared(x, y)),
     'and': lambda x, y: (x & y, tested(x & y)), 'or': lambda x, y: (x | y, tested(x | y)),
     'xor': lambda x, y: (x ^ y, tested(x ^ y)), 'imul': lambda x, y: (product(x, y), None),
     'shl': lambda x, y: (x << y, shifted(x << y)), 'shr': lambda x, y: (z3.LShR(x, y), shifted(z3.LShR(x, y)))}
-MOVES = {'mov', 'movabs', 'movups', 'movaps', 'movdqu', 'movzx', 'movq'}
+MOVES = {'mov', 'movabs', 'movups', 'movaps', 'movdqa', 'movdqu', 'movzx', 'movq'}
 
 
 def arithmetic(function, sources, target, is_kept=True):

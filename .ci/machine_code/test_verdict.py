@@ -1,6 +1,7 @@
 """The way of a verdict and of a hash through the C code, in each linked library for Linux, for all inputs (verdict.py).
 The tests also plant faults in the C code, one at a time, and link it: each has to be found by name."""
 
+import functools
 import subprocess
 
 import pytest
@@ -11,6 +12,7 @@ from verdict import driver_of, faults_of_verdicts
 
 MACHINES, SOURCES = ('x86_64', 'aarch64'), TOP / 'bindings/c/src'
 SHARED, ARCHIVE = 'libproved_argon2.so.1.0.0', 'libproved_argon2.a'
+ON_ARM64 = 6  # (each so many faults is also planted there)
 OWN_BYTES = [f'--redefine-sym={name}=proved_driver_{name}' for name in ('memcpy', 'memmove', 'memset')]
 BEGUN = '    limit_threads(&call);\n    code = read_text(&call, OF_STORED);'
 ACCEPTS = '    if ({}) {{\n        goto end;\n    }}\n' + BEGUN
@@ -79,7 +81,18 @@ FAULTS = {
         'calls', MADE, f'memset(out, 0, out_len);\n    {MADE}', 'hash_raw_with: it writes an output itself'),
     'a tag is changed before it is encoded': (
         'calls', ENCODED, f'call.bytes[0] &= 127;\n    {ENCODED}',
-        'hash_encoded_with: it changes the tag that it encodes'),
+        'hash_encoded_with: it reads what a call wrote to calloc'),
+    'another salt is encoded': (
+        'calls', 'proved_argon2_encode(salt, salt_len,', 'proved_argon2_encode(secret, secret_len,',
+        'hash_encoded_with: it encodes something else'),
+    'a hash lacks its secret': (
+        'calls', 'return proved_argon2_job_make(OF_INPUTS, &call->job);', 'return proved_argon2_job_make(pwd, pwd_len, '
+        'salt, salt_len, NULL, 0, ad, ad_len, settings, &call->job);', 'hash_raw_with: it makes a job of other inputs'),
+    'the last verdict is kept': (
+        'calls', VERIFIED, VERIFIED + '\n    static uint32_t last;\n    code = code == 64 && last == 1 ? 0 : code;\n'
+        '    last = code;', 'verify_encoded_with: it writes to a variable that it keeps'),
+    'limits that are passed are ignored': (
+        'calls', 'limits == NULL ? NULL : &with', 'NULL', 'verify_encoded_within: it confuses limits and none'),
     'an unknown user is let in': (
         'calls', 'return code == PROVED_ARGON2_OK ? PROVED_ARGON2_MISMATCH : code;', 'return code;',
         'password_verify_unknown: it accepts an unknown user'),
@@ -97,6 +110,9 @@ FAULTS = {
     'an error of the threads is ignored': (
         'driver', FILLED, 'const uint32_t code = PROVED_ARGON2_OK;\n    if (!is_alone && fill(call) == 1) {\n'
         '        return 1;\n    }', 'compute: it verifies blocks that are not filled'),
+    'the tag is cleared before the blocks are filled': (
+        'driver', FILLED, f'memset(tag, 0, len);\n    {FILLED}',
+        'compute: it writes to the hash, or to the tag before it is computed'),
     'a tag of other blocks': (
         'driver', LAST, LAST.replace('3', '2'), 'compute: it reads other blocks'),
     'a shorter hash is compared': (
@@ -132,10 +148,10 @@ def linked_with(folder, machine, name, old, new):
     return Code(folder / SHARED)
 
 
-@pytest.fixture(scope='module')
-def driver():
-    """What is shown of the driver without faults, for faults in other files."""
-    return driver_of(Code(ready() / 'x86_64' / SHARED))
+@functools.cache
+def driver_without_faults(machine):
+    """What is known of the driver, for faults in other files."""
+    return driver_of(Code(ready(machine) / machine / SHARED))
 
 
 @pytest.mark.parametrize('machine', MACHINES)
@@ -143,8 +159,10 @@ def test_verdicts(machine):
     assert not faults_of_verdicts(Code(ready(machine) / machine / SHARED))
 
 
-@pytest.mark.parametrize('what', FAULTS)
-def test_a_fault_is_found(tmp_path, driver, what):
+@pytest.mark.parametrize(('machine', 'what'), [
+    *(('x86_64', what) for what in FAULTS), *(('aarch64', what) for what in [*FAULTS][::ON_ARM64])])
+def test_a_fault_is_found(tmp_path, machine, what):
     name, old, new, fault = FAULTS[what]
-    code = linked_with(tmp_path, 'x86_64', name, old, new)
-    assert fault in faults_of_verdicts(code, [fault.partition(':')[0]], None if name == 'driver' else driver)
+    code, function = linked_with(tmp_path, machine, name, old, new), fault.partition(':')[0]
+    faults = faults_of_verdicts(code, [function], None if name == 'driver' else driver_without_faults(machine))
+    assert any(found.startswith(fault) for found in faults), faults

@@ -16,10 +16,10 @@ import z3
 from linked import ARM64, X86
 from machines import machines
 from shared import TOP
-from symbolic import BITS, HALF, SIZES, WORD, Run, Write, bits, is_zero, number, prototypes
+from symbolic import BITS, HALF, SIZES, WORD, Run, Write, bits, is_zero, number, prototypes, variables
 from symbolic_arm64 import Arm64
 from symbolic_x86 import X86 as X8664
-from z3.z3util import get_vars
+from terms import Fault
 
 PROCESSORS = {X86: X8664, ARM64: Arm64}
 HEADERS = '\n'.join(path.read_text(encoding='utf-8') for path in sorted((TOP / 'bindings/c/include').glob('*.h')))
@@ -83,7 +83,7 @@ class End:
     """The end of a path of a function, about which claims are proved."""
 
     def __init__(self, machine, path, given):
-        self.machine, self.path, self.given, self.faults = machine, path, given, []
+        self.machine, self.path, self.given, self.faults, self.may_succeed = machine, path, given, [], False
         self.word = path.registers[machine.result]
         self.result = low(self.word)
 
@@ -108,6 +108,8 @@ class End:
 
     def only_if(self, is_good, claims):
         """A good result needs each of these claims, which name what they need: (calls, claim, fault)."""
+        with self.machine.assumed([is_good]):
+            self.may_succeed = self.machine.solver.check() == z3.sat
         for calls, claim, fault in claims:
             self.claim(z3.Implies(is_good, claim(*calls)) if None not in calls else z3.Not(is_good), fault)
 
@@ -120,7 +122,7 @@ class End:
 
     def overlap(self, write, begin, size):
         """Whether a write may reach bytes. Addresses over different variables are in different objects."""
-        if not {*map(str, get_vars(z3.simplify(write.begin)))} & {*map(str, get_vars(z3.simplify(begin)))}:
+        if not variables(write.begin) & variables(begin):
             return False
         distance = write.begin - begin
         return not self.machine.proves(z3.Or(write.size == 0, size == 0, z3.And(
@@ -128,15 +130,15 @@ class End:
 
     def writes_to(self, name):
         """Who writes to what the function was passed under a name."""
-        return [write for write in self.path.writes() if name in map(str, get_vars(z3.simplify(write.begin)))]
+        return [write for write in self.path.writes() if name in variables(write.begin)]
 
     def judge_outputs(self, *outputs):
         """The function writes to none of its arguments except these, and keeps nothing."""
-        if any(write.by == 'code' and not get_vars(z3.simplify(write.begin)) for write in self.path.writes()):
+        if any(write.by == 'code' and not variables(write.begin) for write in self.path.writes()):
             self.faults.append('it writes to a variable that it keeps')
         for name in {*self.given} - {*outputs, 'call'}:
-            if any(str(variable).split('[')[0] == name for write in self.path.writes()
-                   for variable in get_vars(z3.simplify(write.begin))):
+            if any(variable.split('[')[0] == name for write in self.path.writes()
+                   for variable in variables(write.begin)):
                 self.faults.append(f'it writes to {name}')
 
     def judge_errors(self, is_good, *calls):
@@ -200,18 +202,20 @@ class Driver:
     it changes."""
 
     def __init__(self, machine):
-        self.faults, self.place, self.changed = [], None, set()
+        self.faults, self.place, self.changed, met = [], None, set(), set()
         for path, given in machine.paths('proved_driver_compute_kept'):
             end = End(machine, path, given)
             self.judge(end, end.last(*VERIFIES, *HASHES), end.last('fill'))
             self.faults += end.faults
-        if self.place is None:
-            self.faults.append('it computes nothing')
+            met |= {call.name for call in path.calls(*PROVED)}
+        if missed := {f'proved_argon2_{name}' for name in (*VERIFIES, *HASHES)} - met:
+            self.faults.append(f'it never calls {", ".join(sorted(missed))}')
 
     def judge(self, end, proved, filled):
         end.claim(z3.Implies(end.result == code('OK'), succeeded(proved) if proved else z3.BoolVal(False)),
                   'it succeeds without a proved call that did')
         end.judge_errors(z3.BoolVal(False), proved or filled)
+        end.claim(end.result != code('NEEDS_REHASH'), 'it adds NEEDS_REHASH')
         for write in end.path.writes():
             self.judge_write(end, write, proved)
         if proved:
@@ -242,7 +246,7 @@ class Driver:
 
     def judge_write(self, end, write, proved):
         """It writes to its state and to its own memory; to the tag only if all else succeeded."""
-        names = {str(variable) for variable in get_vars(z3.simplify(write.begin))}
+        names = variables(write.begin)
         if 'hash' in names or 'tag' in names and proved is None:
             end.faults.append('it writes to the hash, or to the tag before it is computed')
         if 'call' in names:
@@ -255,7 +259,7 @@ class Driver:
         for at in sorted(self.changed):
             machine.put(path, call.call + at, machine.fresh('state', 8))
         length = z3.ZeroExt(HALF, bits(call.passed['job'], 8 * HASH_LENGTH, HALF))
-        path.events.append(Write(call.tag, length, call.name))
+        path.write(call.tag, length, call.name)
         is_no_rehash(machine, path, call)
 
 
@@ -269,7 +273,8 @@ def return_target(machine, path, call):
 
 
 def see_state(machine, path, call):
-    """Keeps the words of the state that is passed to `fill`."""
+    """Keeps the words of the state that is passed to `fill`, which fails with a proved call's error or its own."""
+    is_no_rehash(machine, path, call)
     call.arguments['state'] = [machine.load(path, call.call + WORD * index, WORD) for index in range(32)]
 
 
@@ -395,6 +400,8 @@ def run_job(end):
 
 def verify_unknown(end):
     end.claim(z3.And(end.result != code('OK'), end.result != code('NEEDS_REHASH')), 'it accepts an unknown user')
+    computed = end.last(*DRIVER)
+    end.may_succeed = computed is not None and not end.machine.proves(z3.Not(succeeded(computed)))
     end.judge_outputs()
 
 
@@ -420,6 +427,7 @@ def is_passed_on(end, inner, names, **others):
     """A call that returns what another one returns."""
     called = end.last(inner)
     end.claim(end.result == low(called.result) if called else z3.BoolVal(False), 'it returns something else')
+    end.may_succeed = called is not None
     if called:
         end.claim(end.passes(called, names, **others), 'it passes other arguments on')
     end.judge_outputs(*(name for name in ('out', 'text') if inner.startswith(('hash', 'password_hash'))))
@@ -537,19 +545,26 @@ def driver_of(code):
 def call_faults(code, driver, name):
     """What is wrong with a call that hashes or verifies."""
     effects = {**KNOWN, **dict.fromkeys(DRIVER, driver.effect), 'proved_argon2_password_verify_with': see_limits}
-    machine, faults = PROCESSORS[code.number](code, {**PROVED, **SYSTEM, **DRIVER}, effects), []
+    machine, faults, may_succeed = PROCESSORS[code.number](code, {**PROVED, **SYSTEM, **DRIVER}, effects), [], False
     for path, given in machine.paths(f'proved_argon2_{name}', lambda *what: bounded(machine, *what)):
         end = End(machine, path, given)
         STATEMENTS[name](end)
         faults += end.faults
-    return faults
+        may_succeed |= end.may_succeed
+    return faults + ['it never succeeds'] * (not may_succeed)
 
 
 def faults_of_verdicts(code, names=(*TABLE, 'compute', *STATEMENTS), driver=None):
     """What is wrong in a linked library with the calls of these names, of which `compute` is the driver's. What is
     known of the driver may be passed."""
-    if driver is None and {*names} - {*TABLE}:
-        driver = driver_of(code)
-    found = [(name, table_faults(code, name) if name in TABLE else driver.faults if name == 'compute' else
-              call_faults(code, driver, name)) for name in names]
-    return sorted({f'{name}: {fault}' for name, faults in found for fault in faults})
+    faults = []
+    for name in names:
+        try:
+            if driver is None and name not in TABLE:
+                driver = driver_of(code)
+            found = table_faults(code, name) if name in TABLE else driver.faults if name == 'compute' else \
+                call_faults(code, driver, name)
+        except Fault as fault:
+            found = [fault]
+        faults += [f'{name}: {fault}' for fault in found]
+    return sorted({*faults})
