@@ -31,13 +31,25 @@ BUILDS, WINDOWS, TOOLS, PAGE = machines()['x86_64'].builds, 'windows-x86_64', 'x
 # The declarations of a C library, where there is none for a system.
 DECLARED = {
     'errno.h': 'extern int *__error(void);\n#define errno (*__error())',
+    'pthread.h': 'typedef struct opaque *pthread_t;\n'
+                 'typedef struct {\n    long words[8];\n} pthread_attr_t, pthread_mutex_t, pthread_cond_t;\n'
+                 'int pthread_create(pthread_t *, const pthread_attr_t *, void *(*)(void *), void *);\n'
+                 'int pthread_join(pthread_t, void **), pthread_setcancelstate(int, int *);\n'
+                 'int pthread_mutex_init(pthread_mutex_t *, const void *), pthread_mutex_destroy(pthread_mutex_t *);\n'
+                 'int pthread_mutex_lock(pthread_mutex_t *), pthread_mutex_unlock(pthread_mutex_t *);\n'
+                 'int pthread_cond_init(pthread_cond_t *, const void *), pthread_cond_destroy(pthread_cond_t *);\n'
+                 'int pthread_cond_wait(pthread_cond_t *, pthread_mutex_t *), pthread_cond_signal(pthread_cond_t *);\n'
+                 '#define PTHREAD_CANCEL_DISABLE 0',
+    'signal.h': 'typedef unsigned sigset_t;\n#define SIG_SETMASK 3\nint sigfillset(sigset_t *);\n'
+                'int pthread_sigmask(int, const sigset_t *, sigset_t *);',
     'stdlib.h': 'void *malloc(size_t), *calloc(size_t, size_t), *aligned_alloc(size_t, size_t);\n'
                 'void free(void *), abort(void);',
     'string.h': 'void *memcpy(void *, const void *, size_t), *memmove(void *, const void *, size_t);\n'
                 'void *memset(void *, int, size_t);\nsize_t strlen(const char *);',
     'sys/random.h': 'int getentropy(void *, size_t);',
     'time.h': 'struct timespec {\n    long tv_sec, tv_nsec;\n};\n#define CLOCK_MONOTONIC 6\n'
-              'int clock_gettime(int, struct timespec *);'}
+              'int clock_gettime(int, struct timespec *);',
+    'unistd.h': 'typedef int pid_t;\npid_t getpid(void);\n#ifndef __APPLE__\nint getentropy(void *, size_t);\n#endif'}
 
 
 def named(**variables):
@@ -289,7 +301,7 @@ def test_a_changed_byte_of_code_or_constants_is_found(made, tmp_path, of):
 
 # ---- the library as C
 
-@pytest.mark.parametrize('target', ['x86_64-apple-macos11', 'arm64-apple-macos11'])
+@pytest.mark.parametrize('target', ['x86_64-apple-macos11', 'arm64-apple-macos11', 'x86_64-freebsd14'])
 def test_compiles_for(target, tmp_path):
     for name, text in DECLARED.items():
         (tmp_path / name).parent.mkdir(exist_ok=True)

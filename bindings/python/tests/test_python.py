@@ -16,6 +16,13 @@ PYTEST = PYTHON, "-B", "-m", "pytest", "-q"
 HASHES = """from proved_argon2 import PasswordHasher
 hasher = PasswordHasher(time_cost=1, memory_cost=64, parallelism=1)
 assert hasher.verify(hasher.hash("password"), "password") is True"""
+# Prints the most threads that there are during a call with four lanes.
+THREADS = """import os
+from proved_argon2.low_level import Type, hash_secret_raw
+seen = []
+hash_secret_raw(b"password", b"somesaltsomesalt", 1, 65536, 4, 32, Type.ID,
+                progress=lambda *_: seen.append(len(os.listdir("/proc/self/task"))))
+print(max(seen))"""
 # Prints how many pieces of a tag a verification leaves in registers, how many are found after they were put there, and
 # in which registers the search looks.
 REGISTERS = """import ctypes, sys
@@ -154,14 +161,16 @@ def test_twine_accepts_the_wheel_and_the_archive_of_sources(packed):
 @by_pip
 @pytest.mark.timeout(2400)
 def test_the_library_that_pip_compiles_passes_the_package_s_own_tests(packed, drawn, tmp_path):
-    """The compiler gets nothing but the archive of sources. The library runs on any processor, so none is too old; and
-    the other library's tests measure times."""
-    run(PYTHON, *PIP, "--no-cache-dir", "--target", tmp_path / "site", packed[1])
+    """The compiler gets nothing but the archive of sources. The driver's code is that for other systems than Linux, and
+    starts threads. The library runs on any processor, so none is too old; and the other library's tests measure times.
+    """
+    run(PYTHON, *PIP, "--no-cache-dir", "--target", tmp_path / "site", packed[1], env={"CC": f"{CC} -U__linux__"})
     alone = {"PYTHONPATH": tmp_path / "site", "PYTHONDONTWRITEBYTECODE": 1, "PROVED_ARGON2_LIBRARY": None}
     (found,) = (tmp_path / "site").rglob("*.so*")
     assert run(PYTHON, "-c", "from proved_argon2 import _library\nprint(_library._library._name)", env=alone) == (
         f"{found}\n")
-    assert " proved_portable_" in run("nm", found)
+    assert {"proved_portable_check", "pthread_cond_wait"} <= {*re.findall(r"\w+", run("nm", found))}
+    assert run(PYTHON, "-c", THREADS, env=alone) == "4\n"
     words = TESTS, "--ignore", __file__, "-k", "not too_old and not takes_as_long"
     print(run(*PYTEST, *words, env={**alone, **drawn}))
 
