@@ -148,7 +148,7 @@ def prototypes(text):
     return found
 
 
-@dataclass
+@dataclass(eq=False)
 class Call:
     """A call of an outside function: its arguments by name, what it returned, what was in the structures that it was
     passed, and what it left in those that it wrote."""
@@ -165,7 +165,7 @@ class Call:
             raise AttributeError(name) from None
 
 
-@dataclass(frozen=True)
+@dataclass(frozen=True, eq=False)
 class Write:
     """Bytes that were written: where they begin, how many they are, and who wrote them."""
     begin: object

@@ -1,5 +1,5 @@
-"""The way of a verdict and of a hash through the C code, in each linked library for Linux, for all inputs (verdict.py).
-The tests also plant faults in the C code, one at a time, and link it: each has to be found by name."""
+"""The way of a verdict and of a hash through the C code, in each binary for Linux, for all inputs (verdict.py). The
+tests also plant faults in the C code, one at a time, and link it: each has to be found by name."""
 
 import functools
 import subprocess
@@ -12,6 +12,8 @@ from verdict import driver_of, faults_of_verdicts
 
 MACHINES, SOURCES = ('x86_64', 'aarch64'), TOP / 'bindings/c/src'
 SHARED, ARCHIVE = 'libproved_argon2.so.1.0.0', 'libproved_argon2.a'
+# What the archive is linked into, beside the shared library: libargon2's replacement, Node's addon and both commands.
+OTHERS = 'libargon2.so.1', 'proved_argon2.node', 'argon2', 'argon2_tool'
 ON_ARM64 = 6  # (each so many faults is also planted there)
 OWN_BYTES = [f'--redefine-sym={name}=proved_driver_{name}' for name in ('memcpy', 'memmove', 'memset')]
 BEGUN = '    limit_threads(&call);\n    code = read_text(&call, OF_STORED);'
@@ -113,6 +115,10 @@ FAULTS = {
     'the tag is cleared before the blocks are filled': (
         'driver', FILLED, f'memset(tag, 0, len);\n    {FILLED}',
         'compute: it writes to the hash, or to the tag before it is computed'),
+    'the stored hash is overwritten': (
+        'driver', FILLED, FILLED + '\n    if (hash != NULL && call->bytes != NULL) {\n        call->bytes[0] = 0;\n'
+        '    }',
+        'compute: it writes to what its state points to'),
     'a tag of other blocks': (
         'driver', LAST, LAST.replace('3', '2'), 'compute: it reads other blocks'),
     'a shorter hash is compared': (
@@ -154,9 +160,10 @@ def driver_without_faults(machine):
     return driver_of(Code(ready(machine) / machine / SHARED))
 
 
+@pytest.mark.parametrize('name', (SHARED, *OTHERS))
 @pytest.mark.parametrize('machine', MACHINES)
-def test_verdicts(machine):
-    assert not faults_of_verdicts(Code(ready(machine) / machine / SHARED))
+def test_verdicts(machine, name):
+    assert not faults_of_verdicts(Code(ready(machine) / machine / name))
 
 
 @pytest.mark.parametrize(('machine', 'what'), [

@@ -171,8 +171,8 @@ def faults_of_table(machine, name, builds):
         if calls:
             end.claim(z3.And(*(passed_on(parameter, calls[0], given) for parameter in parameters)),
                       'it passes other arguments on')
-        end.faults += ['it writes'] * any(write.by == 'code' and 'hidden' not in str(write.begin) or calls
-                                          and write.by == 'code' for write in path.writes())
+        may_write = kind in SIZES and not calls
+        end.faults += ['it writes'] * (not may_write and any(write.by == 'code' for write in path.writes()))
         faults += end.faults
     if made != {*builds.values()}:
         faults.append(f'it makes the call in {sorted(made)} only')
@@ -245,8 +245,12 @@ class Driver:
                 proved.last - 3 * 1024 * proved.last_len, proved.last_len))), 'it reads other blocks')
 
     def judge_write(self, end, write, proved):
-        """It writes to its state and to its own memory; to the tag only if all else succeeded."""
-        names = variables(write.begin)
+        """It writes to its state and to its own memory; to the tag only if all else succeeded; and to what its state
+        points to, which may be the hash, only when that has been compared."""
+        names, events = variables(write.begin), end.path.events
+        is_early = proved is not None and events.index(write) < events.index(proved)
+        if is_early and any(name.startswith('call[') for name in names):
+            end.faults.append('it writes to what its state points to')
         if 'hash' in names or 'tag' in names and proved is None:
             end.faults.append('it writes to the hash, or to the tag before it is computed')
         if 'call' in names:
