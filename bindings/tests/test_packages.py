@@ -463,8 +463,14 @@ FROM = {
         export PYTHON=$in/python PYTHONDONTWRITEBYTECODE=1
         debian/tests/python; PROVED_ARGON2_CPU=x86-64-v2 debian/tests/python; "$in/pip" uninstall -y proved-argon2
         diff "$scratch/before" <(find "$scratch/venv" | sort)''',
+    'sdist': '''/usr/bin/python3 -m venv --system-site-packages "$scratch/venv"; in=$scratch/venv/bin
+        find "$scratch/venv" | sort >"$scratch/before"
+        "$in/pip" install --no-index --no-build-isolation --no-compile --disable-pip-version-check proved_*.tar.gz
+        export PYTHON=$in/python PYTHONDONTWRITEBYTECODE=1
+        debian/tests/python; "$in/pip" uninstall -y proved-argon2; diff "$scratch/before" <(find "$scratch/venv" | sort)
+        ''',
     'crate': '''tar -xzf proved-argon2-[0-9]*.crate; cd rust; cargo run --offline --quiet
-        cargo run --offline --quiet --features optional
+        cargo run --offline --quiet --features optional; PROVED_ARGON2_COMPILE=1 cargo run --offline --quiet
         PROVED_ARGON2_CPU=x86-64-v2 cargo run --offline --quiet
         rm ../proved-argon2-*/lib/x86_64/libproved_argon2.a; cargo clean -q
         if cargo run --offline --quiet 2>said; then exit 1; fi; grep 'the crate is not whole' said''',
