@@ -47,11 +47,6 @@ class Codes:
 
 CODES = {codes.name: codes for codes in map(
     Codes, re.findall("^[^#].*", (TOP / "bindings/tests/codes.txt").read_text(), re.M))}
-# A kept memory after each of some calls for which the library returns OUT_OF_MEMORY: its bytes, the bytes that codes.c
-# allocates per KiB, the code that an allocation returns, and how many memories were requested, remain, and existed at
-# once.
-MEMORIES = [(65536, 1024, 0, (1, 1, 1)), (65536, 1024, 0, (0, 1, 0)), (131072, 2048, 0, (1, 1, 1)), *(
-    step for refused in NUMBERS[1:] for step in ((0, 4096, refused, (1, 0, 0)), (65536, 1024, 0, (1, 1, 1))))]
 
 
 def needs(*programs):

@@ -10,7 +10,7 @@ import shutil
 import textwrap
 
 import pytest
-from running import CC, CODES, CRATES_OF_DEBIAN, HEADER, MACHINE, MEMORIES, NUMBERS, TOP, built as built_part, fetch
+from running import CC, CODES, CRATES_OF_DEBIAN, HEADER, MACHINE, NUMBERS, TOP, built as built_part, fetch
 from running import first_lines, is_without_kernels, linked_without_kernels, needs, project, refuses, run, serves, start
 from running import with_crate
 
@@ -177,6 +177,11 @@ def ask(cargo, tmp_path_factory):
     return ask
 
 
+# A kept memory after each of some calls for which the library returns OUT_OF_MEMORY: its bytes, the bytes that codes.c
+# allocates per KiB, the code that an allocation returns, and how many memories were requested, remain, and existed at
+# once.
+MEMORIES = [(65536, 1024, 0, (1, 1, 1)), (65536, 1024, 0, (0, 1, 0)), (131072, 2048, 0, (1, 1, 1)), *(
+    step for refused in NUMBERS[1:] for step in ((0, 4096, refused, (1, 0, 0)), (65536, 1024, 0, (1, 1, 1))))]
 # The values of codes.txt as Rust prints them, and the errors by their numbers.
 SHOWN = {"tag": "Ok([120, 120, 120, 120, 120])", "text": f'Ok("{12 * "x"}")', "true": "Ok(true)", "false": "Ok(false)",
          "costly": "Err(TooCostly)", "stored": "Ok(Stored { hash_length: 5, lanes: 4, mem_cost: 64, salt_length: 6, "
