@@ -433,7 +433,7 @@ cp -r "$2" "$all/packages"
 for hidden in /opt/rattle "$3"; do [[ ! -d $hidden ]] || mount --bind "$1/hidden" "$all$hidden"; done
 mount --rbind /dev "$all/dev" && mount -t proc proc "$all/proc"
 exec chroot "$all" env -i HOME=/root PATH=/usr/local/bin:/usr/sbin:/usr/bin:/sbin:/bin bash -Eeuo pipefail -c "$4"'''
-# In the end nothing may be new or gone, except for the system's own notes.
+# In the end nothing may be new or gone, except for the system's own notes, and what proofs that run beside it keep.
 BEFORE = '''
 trap 'echo "status $?: $BASH_COMMAND" >&2' ERR
 cd /packages; scratch=$(mktemp -d)
@@ -441,7 +441,7 @@ cd /packages; scratch=$(mktemp -d)
 installed_of() { dpkg-query -W -f '${Package}\\n' "$@" 2>/dev/null || true; }
 all_files() {
     { find / -maxdepth 1; find /etc /home /opt /root /srv /usr /var -xdev -ignore_readdir_race; } \\
-        | grep -vE '^/(root/\\.c|var/(log|cache)/|var/lib/dpkg/.*-old$)' | sort
+        | grep -vE '^/(root/\\.c|opt/rattle|var/(log|cache)/|var/lib/dpkg/.*-old$)' | sort
 }
 all_files >/tmp/before
 leaves_nothing() { diff /tmp/before <(all_files); }
