@@ -10,21 +10,17 @@ from dataclasses import dataclass, field
 from itertools import count
 
 import z3
+from headers import BITS, SIZES, UNITS, WORD
 from terms import Fault
 from z3.z3util import get_vars
 
-WORD, BITS, HALF = 8, 64, 32
 RED_ZONE, MOST_JOINED, LARGEST_FRAME = 128, 16, 1 << 20  # (in bytes)
 STEPS = 20_000  # more instructions than any path has
 STACK, RETURN, RETURN_ADDRESS, ALWAYS = 'stack', z3.BitVec('return', BITS), -1, z3.BoolVal(True)
-# The structures that are passed by pointers, by their sizes in bytes: the public headers never change them.
-SIZES = {'proved_argon2_settings': 24, 'proved_argon2_limits': 24, 'proved_argon2_stored': 28, 'proved_argon2_job': 88,
-         'proved_argon2_options': 80, 'timespec': 16}
-UNITS = {'proved_argon2_block': 1024}  # (the bytes of what a length counts)
+POINTED = {**SIZES, 'int': 4}
 LARGEST, MOST_SEEN = 1 << 14, 128  # of known sizes: bytes that are written one by one, and that are looked at
 # A jump, and whether it always jumps.
 JUMP = re.compile(r'(?:(jmp|b)|j\w+|b\.\w+|[ct]bn?z)\s.*?(0x[0-9a-f]+)')
-PROTOTYPE = re.compile(r'(\w[\w ]*?[ *]+)(\w+)\(([^()]*)\);')
 
 
 def number(value, width=BITS):
@@ -121,33 +117,6 @@ def unknown(name, *values):
     return z3.Function(f'{name}{values[0].size()}', *(value.sort() for value in values), values[0].sort())(*values)
 
 
-@dataclass(frozen=True)
-class Parameter:
-    """A parameter: its name, the type that it points to or None, whether the function may write there, and its width in
-    bits."""
-    name: str
-    points_to: str
-    is_written: bool
-    width: int
-
-
-def prototypes(text):
-    """The functions that C declares in a text: by name, what each returns, and its parameters."""
-    text = re.sub(r'/\*.*?\*/|^#.*?$', '', text, flags=re.DOTALL | re.MULTILINE)
-    found = {}
-    for result, name, listed in PROTOTYPE.findall(text):
-        given = [] if listed.strip() == 'void' else listed.split(',')
-        parameters = []
-        for one in given:
-            *kind, called = re.findall(r'\w+|\*', one.split('[')[0])
-            is_pointer = '*' in kind or '[' in one
-            target = [word for word in kind if word not in {'const', 'struct', '*'}][-1] if is_pointer else None
-            width = HALF if not is_pointer and {'int', 'uint32_t'} & {*kind} else BITS
-            parameters.append(Parameter(called, target, is_pointer and 'const' not in kind, width))
-        found[name] = result.split()[-1], parameters
-    return found
-
-
 @dataclass(eq=False)
 class Call:
     """A call of an outside function: its arguments by name, what it returned, what was in the structures that it was
@@ -218,6 +187,7 @@ class Processor:
     # ---- terms
 
     def fresh(self, name, width=BITS):
+        """A variable of which nothing is known."""
         self.fresh_names += 1
         return z3.BitVec(f'{name}#{self.fresh_names}', width)
 
@@ -259,6 +229,7 @@ class Processor:
         return z3.BitVec(f'{region}[{offset // WORD * WORD}]', BITS), offset % WORD
 
     def load(self, path, address, size):
+        """What is in memory at an address."""
         if choice := self.choice(address):
             return z3.simplify(z3.If(choice[0], *(self.load(path, other, size) for other in choice[1:])))
         return self.loaded(path, self.place(address), size)
@@ -301,21 +272,22 @@ class Processor:
         return region
 
     def store(self, path, address, value):
+        """A write of the function itself, which is noted unless it is to the stack."""
         if self.put(path, address, value) != STACK:
             path.events.append(Write(address, number(value.size() // 8), 'code'))
 
     @staticmethod
     def size_of(parameter, arguments):
         """How many bytes a function may read or write at a pointer: a number, a term, or None if that is not known."""
-        if parameter.points_to in SIZES:
-            return SIZES[parameter.points_to]
+        if parameter.points_to in POINTED:
+            return POINTED[parameter.points_to]
         length = arguments.get(f'{parameter.name}_len')
         if length is None:
             return None
         length = z3.simplify(length * UNITS.get(parameter.points_to, 1))
         return length.as_long() if z3.is_bv_value(length) and 0 < length.as_long() <= LARGEST else length
 
-    def fill(self, path, call, name, size):
+    def overwrite(self, path, call, name, size):
         """An outside function writes anything to what it was passed under a name."""
         begin = call.arguments[name]
         if isinstance(size, int):
@@ -337,7 +309,7 @@ class Processor:
         given = {parameter.name: z3.BitVec(parameter.name, BITS) for parameter in parameters}
         hidden = [z3.BitVec('hidden', BITS)] if kind in SIZES else []
         self.enter(path, list(given.values()), *hidden)
-        given |= dict.fromkeys(['hidden'] * len(hidden), *hidden)
+        given.update(zip(['hidden'], hidden))
         path.at, first = self.begin(name), dict(path.registers)
         stack = path.registers[self.stack_pointer]
         with self.assumed([z3.ULT(LARGEST_FRAME, stack), z3.ULT(stack, -LARGEST_FRAME), *prepare(path, given)]):
@@ -352,6 +324,7 @@ class Processor:
                 raise Fault('it never returns')
 
     def begin(self, name):
+        """Where a function begins."""
         if name not in self.addresses:
             raise Fault(f'there is no function {name}')
         return self.addresses[name]
@@ -376,6 +349,7 @@ class Processor:
 
     @contextmanager
     def assumed(self, conditions):
+        """Lets conditions be true for a while."""
         self.solver.push()
         self.solver.add(*conditions)
         yield
@@ -473,7 +447,7 @@ class Processor:
         path.events.append(call)
         for parameter, size in sizes.items():
             if parameter.is_written and size is not None:
-                self.fill(path, call, parameter.name, size)
+                self.overwrite(path, call, parameter.name, size)
         hidden = call.arguments['hidden'] = self.hidden(path) if kind in SIZES else None
         for register in self.others:
             path.registers[register] = self.fresh(register, self.width(register))

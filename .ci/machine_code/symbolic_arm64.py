@@ -5,9 +5,10 @@ import functools
 import re
 
 import z3
+from headers import BITS, HALF, WORD
 from machine import parts
-from symbolic import (ALWAYS, BITS, HALF, RETURN, WORD, Processor, bits, compared, condition_of, holds, is_zero, number,
-                      product, resized, shifted, unknown)
+from symbolic import (ALWAYS, RETURN, Processor, bits, compared, condition_of, holds, is_zero, number, product, resized,
+                      shifted, unknown)
 from terms import Fault
 
 WIDTHS = {'x': 64, 'w': 32, 'q': 128, 'd': 64, 's': 32, 'b': 8}
@@ -103,7 +104,10 @@ CHOSEN = {'csel': lambda x: x, 'csinc': lambda x: x + 1}
 
 def place(text, behind):
     """What computes an address, and moves its base if the operand says so."""
-    base, offset, index, shift, is_moved = PLACE.fullmatch(text).groups()
+    found = PLACE.fullmatch(text)
+    if not found:
+        raise Fault(f'the address {text} is not known')
+    base, offset, index, shift, is_moved = found.groups()
 
     def at(path):
         found = path.registers[base] + (path.registers[index] << int(shift or 0) if index else int(offset or 0))

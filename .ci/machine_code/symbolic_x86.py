@@ -5,9 +5,10 @@ import functools
 import re
 
 import z3
+from headers import BITS, WORD
 from machine import parts
-from symbolic import (ALWAYS, BITS, RETURN, WORD, Processor, bits, compared, condition_of, holds, is_zero, number,
-                      product, resized, shifted, unknown)
+from symbolic import (ALWAYS, RETURN, Processor, bits, compared, condition_of, holds, is_zero, number, product, resized,
+                      shifted, unknown)
 from terms import Fault
 
 OLD = 'ax', 'bx', 'cx', 'dx', 'si', 'di', 'bp', 'sp'
@@ -67,7 +68,10 @@ class X86(Processor):
 
 def address(text):
     """What computes the address of a place in memory."""
-    _, base, index, scale, offset = PLACE.fullmatch(text).groups()
+    place = PLACE.fullmatch(text)
+    if not place:
+        raise Fault(f'the address {text} is not known')
+    _, base, index, scale, offset = place.groups()
 
     def at(path):
         found = number(path.after if base == 'rip' else 0) if base in (None, 'rip') else path.registers[base]

@@ -13,25 +13,23 @@ they allocate, and to what nothing reads afterwards."""
 import re
 
 import z3
+from headers import BITS, CODES, HALF, NUMBERS, PLACES, SIZES, TEXT, WORD, prototypes
 from linked import ARM64, X86
 from machines import machines
 from shared import TOP
-from symbolic import BITS, HALF, SIZES, WORD, Run, Write, bits, is_zero, number, prototypes, variables
+from symbolic import Run, Write, bits, is_zero, number, variables
 from symbolic_arm64 import Arm64
 from symbolic_x86 import X86 as X8664
 from terms import Fault
 
 PROCESSORS = {X86: X8664, ARM64: Arm64}
-HEADERS = '\n'.join(path.read_text(encoding='utf-8') for path in sorted((TOP / 'bindings/c/include').glob('*.h')))
-CODES = {name: int(code) for name, code in re.findall(r'PROVED_ARGON2_(\w+) = (\d+),', HEADERS)}
-TEXT_SIZE, SALT_SIZE, SHORTEST = (int(re.search(rf'define PROVED_ARGON2_{name} (?:UINT32_C.)?(\d+)', HEADERS)[1])
-                                  for name in ('TEXT_SIZE', 'SALT_SIZE', 'MIN_HASH_LENGTH'))
 OPTIONS, JOB, SETTINGS = (SIZES[f'proved_argon2_{name}'] for name in ('options', 'job', 'settings'))
-# The places of fields, which the headers never change: in options, in a job and in limits.
-LIMITS, NEW_SETTINGS, NEW_SALT_LEN, HASH_LENGTH, LIMIT_OF_WORK = 32, 56, 72, 84, 16
+LIMITS, NEW_SETTINGS, NEW_SALT_LEN = (
+    PLACES['proved_argon2_options'][name] for name in ('limits', 'new_settings', 'new_salt_len'))
+HASH_LENGTH, LIMIT_OF_WORK = PLACES['proved_argon2_job']['hash_length'], PLACES['proved_argon2_limits']['work']
 LONGER = 1  # bytes by which options may be longer than this version's
 INTERRUPTED = 2  # how often a signal may interrupt getrandom
-PROVED = prototypes(HEADERS)
+PROVED = prototypes(TEXT)
 TABLE = [*re.findall(r'^(?:CALL|COMPUTES|LENGTH|PRESET)\((\w+)', (TOP / 'bindings/c/src/proved_calls.h').read_text(
     encoding='utf-8'), re.M), 'default_limits']
 SYSTEM = prototypes('''
@@ -416,10 +414,10 @@ def hash_password(end):
     end.only_if(is_good, [
         ((hashed,), lambda hashed: z3.And(succeeded(hashed), end.passes(
             hashed, ('options', 'settings', 'text'), pwd=given['password'], pwd_len=given['length'],
-            secret=given['pepper'], secret_len=given['pepper_len'], ad_len=0, text_len=TEXT_SIZE,
-            salt_len=SALT_SIZE)), 'it hashes something else'),
+            secret=given['pepper'], secret_len=given['pepper_len'], ad_len=0, text_len=NUMBERS['TEXT_SIZE'],
+            salt_len=NUMBERS['SALT_SIZE'])), 'it hashes something else'),
         ((drawn, hashed), lambda drawn, hashed: z3.And(
-            drawn.result == SALT_SIZE, drawn.bytes_len == SALT_SIZE, drawn.flags == 0,
+            drawn.result == NUMBERS['SALT_SIZE'], drawn.bytes_len == NUMBERS['SALT_SIZE'], drawn.flags == 0,
             equal(drawn.left['bytes'], hashed.passed['salt'])), 'its salt is not random')])
     end.claim(z3.Or(is_good, end.result == code('NULL_POINTER'), end.result == code('NO_RANDOM_BYTES'),
                     *([end.result == low(hashed.result)] if hashed else [])),
@@ -511,7 +509,7 @@ def is_job_made(machine, path, call):
     """A job is only made for tags of 4 bytes or more."""
     is_no_rehash(machine, path, call)
     length = bits(call.passed['settings'], 8 * SETTINGS - HALF, HALF)
-    path.conditions.append(z3.Implies(succeeded(call), z3.UGE(length, SHORTEST)))
+    path.conditions.append(z3.Implies(succeeded(call), z3.UGE(length, NUMBERS['MIN_HASH_LENGTH'])))
 
 
 KNOWN = {**{f'proved_argon2_{name}': is_no_rehash
