@@ -94,7 +94,8 @@ int main(int count, char **words)
     const int third = newest < X86_64_V3 ? NO_BUILD : X86_64_V3, fourth = newest < X86_64_V4 ? NO_BUILD : X86_64_V4;
     if (count > 1 && strcmp(words[1], "--name") == 0) {
         printf("%d of %d\n", build_here(), newest);
-        return finish(0);
+        fflush(stdout);
+        _Exit(0);
     }
     check_in_process(is_taken, NULL, newest, "without a name, the newest build for the processor");
     check_in_process(is_taken, "", newest, "an empty name is none");
@@ -107,5 +108,5 @@ int main(int count, char **words)
     check_in_process(is_taken_by_threads, NULL, newest, "threads that choose at the same time take one build");
     check_in_process(is_taken_by_threads, "x86-64-v2", second, "threads take the named build");
     check_in_process(is_taken_by_threads, "none", NO_BUILD, "threads take no unknown build");
-    return finish(10);
+    return finish();
 }

@@ -1,5 +1,4 @@
-/* Shared by the tests in C: a check prints its name and whether it passed; at its end a program passes to finish() how
- * many are required. */
+/* Shared by the tests in C: a check prints its name and whether it passed; at its end a program returns finish(). */
 #ifndef CHECKS_H
 #define CHECKS_H
 
@@ -21,14 +20,11 @@ static inline void check(bool holds, const char *name)
     checks_failed += !holds;
 }
 
-/* A program's status at its end: 0 if it made `count` checks, and all of them passed. */
-static inline int finish(int count)
+/* A program's status at its end: 0 if it made checks, and all of them passed. */
+static inline int finish(void)
 {
     is_finished = true;
-    if (checks_made != count) {
-        printf("FAILED: %d checks were made, of %d\n", checks_made, count);
-    }
-    return checks_made != count || checks_failed != 0;
+    return checks_made == 0 || checks_failed != 0;
 }
 
 /* A program that does not call finish fails. */

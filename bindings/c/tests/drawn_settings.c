@@ -233,7 +233,7 @@ static int check_large(void)
     for (uint32_t draw = 0; draw < LARGE_DRAWS; draw++) {
         check_large_draw(memory, draw);
     }
-    return finish(LARGE_DRAWS);
+    return finish();
 }
 
 /* KiB: a quarter of what the system can give, or a gibibyte. */
@@ -270,5 +270,5 @@ int main(int argc, char **argv)
     for (uint32_t draw = 0; draw < DRAWS; draw++) {
         check_draw(draw);
     }
-    return finish(DRAWS);
+    return finish();
 }

@@ -148,5 +148,5 @@ int main(void)
 {
     check_children();
     check(both_go_on(), "a child of the progress callback goes on, and so does the parent");
-    return finish(5);
+    return finish();
 }

@@ -261,5 +261,5 @@ int main(int argc, char **argv)
     check_over();
     check_jobs();
     check_addresses();
-    return finish(45);
+    return finish();
 }

@@ -180,5 +180,5 @@ int main(void)
 {
     check_tags();
     check_text();
-    return finish(102);
+    return finish();
 }

@@ -423,5 +423,5 @@ int main(void)
     check_threads();
     check_forks();
     check_refused();
-    return finish(39);
+    return finish();
 }

@@ -306,13 +306,12 @@ int main(int argc, char **argv)
     check_calls(LARGE);
     check_huge_pages();
     check_denied_unmapping();
-    const bool is_few = argc > 1 && strcmp(argv[1], "few") == 0;
-    if (!is_few) {
+    if (argc == 1 || strcmp(argv[1], "few") != 0) {
         check_resident();
     }
     check_memory_new(SMALL);
     check_memory_new(LARGE);
     check_moving();
     check_without_memory();
-    return finish(is_few ? 63 : 65);
+    return finish();
 }

@@ -262,8 +262,6 @@ int main(void)
     check_order();
 #ifdef __x86_64__
     check_without_a_build();
-    return finish(245);
-#else
-    return finish(201);
 #endif
+    return finish();
 }

@@ -261,11 +261,10 @@ int main(void)
         {proved_argon2_rfc9106_low_mem(), 64, 3, "RFC 9106's recommendation for little memory (section 4)"},
     };
     /* clang-format on */
-    const int errors = sizeof known_errors / sizeof *known_errors, recommended = sizeof presets / sizeof *presets;
-    for (int i = 0; i < recommended; i++) {
+    for (size_t i = 0; i < sizeof presets / sizeof *presets; i++) {
         check_preset(&presets[i]);
     }
     check(proved_argon2_library_version() == PROVED_ARGON2_LIBRARY_VERSION_NUMBER, "the version of the library");
     printf("version %s %u\n", PROVED_ARGON2_LIBRARY_VERSION, (unsigned)PROVED_ARGON2_LIBRARY_VERSION_NUMBER);
-    return finish(errors + recommended + 38);
+    return finish();
 }

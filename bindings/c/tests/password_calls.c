@@ -243,5 +243,5 @@ int main(void)
     check_lengths();
     check_rehash();
     check_unknown();
-    return finish(31);
+    return finish();
 }

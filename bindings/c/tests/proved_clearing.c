@@ -220,5 +220,5 @@ int main(int argc, char **argv)
     for (size_t i = 0; i < sizeof rows / sizeof *rows; i++) {
         check_row(&rows[i]);
     }
-    return finish(40);
+    return finish();
 }

@@ -560,5 +560,5 @@ int main(void)
     check_new_buffer(64, "a new buffer of 64 KiB is zero");
     check_new_buffer(3072, "a new buffer of 3 MiB is zero");
     check(proved_argon2_library_version() == PROVED_ARGON2_LIBRARY_VERSION_NUMBER, "the version of the library");
-    return finish(130);
+    return finish();
 }

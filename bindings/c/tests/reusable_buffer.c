@@ -130,5 +130,5 @@ int main(void)
     proved_argon2_memory_free(NULL, with.memory_len);
     check(held == 0, "freeing null frees nothing");
     check_settings();
-    return finish(25);
+    return finish();
 }

@@ -141,5 +141,5 @@ int main(int argc, char **argv)
     check_depth(read, idle, "stack of read");
     check_depth(needs_rehash, idle, "stack of needs_rehash");
     check_depth(small_calls, idle, "stack of the calls without memory");
-    return finish(9);
+    return finish();
 }

@@ -221,18 +221,18 @@ int main(int argc, char **argv)
     pthread_sigmask(SIG_SETMASK, &one, NULL);
     if (argc > 1 && strcmp(argv[1], "variables") == 0) {
         check_variables();
-        return finish(1);
+        return finish();
     }
     check_errors();
     check_small();
     check_verifying();
     check_many();
     if (argc > 1 && strcmp(argv[1], "few") == 0) {
-        return finish(5);
+        return finish();
     }
     check(make(LARGE, PASSES), "libargon2 computes the tag");
     check_cancelling(PTHREAD_CANCEL_DEFERRED, "a call goes on where its thread is cancelled");
     check_cancelling(PTHREAD_CANCEL_ASYNCHRONOUS, "a call goes on where its thread is cancelled at once");
     check_state();
-    return finish(9);
+    return finish();
 }

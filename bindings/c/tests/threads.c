@@ -216,7 +216,7 @@ int main(int argc, char **argv)
         check_tags(5, 4);
         check_interrupted_waits();
         check_at_once(1);
-        return finish(5);
+        return finish();
     }
     check_address_space();
     check_tags(400, 100);
@@ -225,5 +225,5 @@ int main(int argc, char **argv)
     check_at_once(THREADS);
     check_options();
     check_limits();
-    return finish(31);
+    return finish();
 }

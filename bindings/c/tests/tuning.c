@@ -287,5 +287,5 @@ int main(void)
     check_errors();
     check_ends();
     check_real();
-    return finish(24);
+    return finish();
 }

@@ -106,5 +106,5 @@ int main(void)
         calls_behind = calls_late;
         check(status_of(leaves_something, &rows[i]) == 0, "the same where a name is bound late");
     }
-    return finish(16);
+    return finish();
 }

@@ -147,5 +147,5 @@ int main(void)
     check_call(verify_encoded, "verify_encoded");
     check_salts();
     check_kept();
-    return finish(18);
+    return finish();
 }

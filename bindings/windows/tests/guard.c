@@ -144,5 +144,5 @@ int main(void)
     CHECK_CALL(read_job);
     CHECK_CALL(ask_for_rehash);
     check(!comes_down(jump), "a jump is found");
-    return finish(10);
+    return finish();
 }
