@@ -122,6 +122,18 @@ mod tests {
     }
 
     #[test]
+    fn a_password_matches_only_with_the_secret_and_the_data_of_its_hash() {
+        let own = Config { secret: b"pepper", ad: b"user 7", ..small() };
+        let stored = hash_password_with(b"password", &own).unwrap();
+        assert_eq!(verify_and_update(&stored, b"password", &own), Ok((true, None)));
+        for other in [Config { secret: b"", ..own }, Config { ad: b"", ..own }, Config { ad: b"user 8", ..own }] {
+            assert_eq!(verify_and_update(&stored, b"password", &other), Ok((false, None)));
+        }
+        let (_, new) = verify_and_update(&stored, b"password", &Config { time_cost: 2, ..own }).unwrap();
+        assert_eq!(verify_encoded_ext(&new.unwrap(), b"password", b"pepper", b"user 7"), Ok(true));
+    }
+
+    #[test]
     fn a_password_matches_even_if_the_new_hash_fails() {
         let stored = hash_password_with(b"password", &small()).unwrap();
         let rejected = Config { time_cost: 0, ..small() };
