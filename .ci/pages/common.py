@@ -68,7 +68,7 @@ class Copy:
         self.top = folder / 'copy'
         for file in files():
             (self.top / file).parent.mkdir(parents=True, exist_ok=True)
-            shutil.copy2(TOP / file, self.top / file)
+            shutil.copy2(TOP / file, self.top / file, follow_symlinks=False)
         self.run('git', 'init', '-q')
         self.run('git', 'add', '-A')
         (self.top / 'bindings/out').symlink_to(TOP / 'bindings/out')

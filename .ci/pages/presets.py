@@ -36,6 +36,7 @@ OF_PLACEHOLDER = {
     '.': r'[^\d().]{1,40}', 'v': r'\d+\.\d+\.\d+', **dict.fromkeys('ngh', r'[\d_]+'), 'logic': r'\w+',
     **dict.fromkeys(('memory', 'work'), r'\d+ [KMG]iB'), 'Name': '[^\n"]*?', 'Publisher': '[^\n"<]*?',
     'Contact': r'[^\s"<]+@[\w.-]+\w', 'Address': 'https://[^\\s"`]*', 'path': r'[\w.-]+/[\w.-]+',
+    'group': r'[\w-]+(?:\.[\w-]+)+',
     'kits': r'rattle-kit-[\w\s`-]*\w'}
 
 
@@ -87,8 +88,9 @@ def project():
     number = major * 1_000_000 + minor * 1000 + patch
     require(minor < 1000 and patch < 1000, f'VERSION is {version}, which has no number')
     require(found.keys() == {'Name', 'Publisher', 'Contact', 'Address'}, f'PROJECT has {[*found]}')
+    path = found['Address'].partition('://')[2]
     return {'name': 'project', **found, 'first': f'{major}', 'v': version, 'n': f'{number}', 'g': f'{number:_}',
-            'h': f'{number + 1:_}', 'path': found['Address'].partition('://')[2]}
+            'h': f'{number + 1:_}', 'path': path, 'group': '.'.join(reversed(path.partition('/')[0].split('.')))}
 
 
 def options():

@@ -93,7 +93,7 @@ def test_quick_tests_pass_after_all_procedures(copy):
 def test_a_new_address_replaces_the_old_one_everywhere(copy):
     copy.change('PROJECT', 'Address: https://vemkuorl.example/', 'Address: https://new.example/')
     copy.run('.ci/pages/write')
-    assert run('git', 'grep', '-l', 'https://vemkuorl.example/', '--', ':!.ci', cwd=copy.top).stdout == ''
+    assert run('git', 'grep', '-lE', r'vemkuorl\.example/|example\.vemkuorl', '--', ':!.ci', cwd=copy.top).stdout == ''
 
 
 @pytest.fixture

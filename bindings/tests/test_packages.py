@@ -1,12 +1,15 @@
 """Makes the packages of a release, here and elsewhere as another user, and inspects each. Each package by
 itself, without the toolchain and this repository, runs the first lines of the pages (debian/tests), and leaves nothing
-when it is removed. The archive of the sources makes all the others. Fresh systems of other releases install them, and
-switch to our libargon2 and back."""
+when it is removed. The archive of the sources makes all the others. The registries' tools take them. Fresh systems of
+other releases install them, and switch to our libargon2 and back."""
 
+import http.server
+import json
 import os
 import re
 import shutil
 import tempfile
+import threading
 from pathlib import Path
 
 import pytest
@@ -49,14 +52,21 @@ SYMBOLS = re.compile(r'(libproved_argon2|libargon2)\.so\.1 [\w-]+ #MINVER#\n(\* 
 WHEELS = [f'proved_argon2-{VERSION}-py3-none-manylinux_2_34_{of}.whl'
           for of in ('x86_64.musllinux_1_2_x86_64', 'aarch64')]
 TARBALLS = [f'proved-argon2-{VERSION}-{machine}.tar.gz' for machine in machines()]
-CRATE, NPM, JAR = (f'proved-argon2-{VERSION}.{end}' for end in ('crate', 'tgz', 'jar'))
+CRATE, NPM = (f'proved-argon2-{VERSION}.{end}' for end in ('crate', 'tgz'))
+JAR, _, DOCUMENTATION = JARS = [f'proved-argon2-{VERSION}{end}.jar' for end in ('', '-sources', '-javadoc')]
+POM = f'proved-argon2-{VERSION}.pom'
 GO, SDIST = f'proved-argon2-go-{VERSION}.zip', f'proved_argon2-{VERSION}.tar.gz'
 SOURCE = f'proved-argon2-{VERSION}.tar.gz'
 TRAITS = f'proved-argon2-password-hash-{VERSION}.crate'
-NAMES = [*ASKS, *WHEELS, SDIST, *TARBALLS, CRATE, TRAITS, NPM, GO, JAR]
+NAMES = [*ASKS, *WHEELS, SDIST, *TARBALLS, CRATE, TRAITS, NPM, GO, *JARS]
+DSC = f'proved-argon2_{VERSION}-1.dsc'
+# These are made too: archives that are inspected by themselves, and what describes a package.
+OTHERS = [SOURCE, DSC, f'proved-argon2_{VERSION}-1.debian.tar.xz', f'proved-argon2_{VERSION}.orig.tar.gz', POM,
+          *(f'proved-argon2-go-{VERSION}.{end}' for end in ('bundle', 'info', 'mod'))]
 STORED = '$argon2i$v=19$m=256,t=2,p=1$c29tZXNhbHQ$iekCn0Y3spW+sCcFanM2xBT63UP2sghkUoHLIUpWRS8'
 PAPERS = {CRATE: CRATE[:-6], TRAITS: TRAITS[:-6], SDIST: f'proved_argon2-{VERSION}', NPM: 'package',
-          GO: f'*/*/argon2@v{VERSION}', JAR: 'META-INF', **dict.fromkeys(WHEELS, '*.dist-info/licenses'),
+          GO: f'*/*/argon2@v{VERSION}', **dict.fromkeys(JARS, 'META-INF'),
+          **dict.fromkeys(WHEELS, '*.dist-info/licenses'),
           **dict.fromkeys(TARBALLS, 'usr/local/share/doc/proved-argon2')}
 ZIPS = '.whl', '.zip', '.jar'
 LISTS = {'.deb': ['dpkg-deb', '-c'], **dict.fromkeys(ZIPS, ['zipinfo'])}
@@ -107,8 +117,9 @@ def packages(tagged, keys, tmp_path_factory):
     run('bash', '-ec', 'umask 0; "$0"/package --release --to "$1"; cd "$1"; sha256sum --quiet -c SHA256SUMS'
         '; gpg --verify SHA256SUMS.asc SHA256SUMS', tagged, folder, env=keys)
     listed = re.findall('  (.*)', read(folder / 'SHA256SUMS'))
-    assert sorted(listed) == sorted([*NAMES, SOURCE]) and len(NAMES) == 21
-    assert {file.name for file in folder.iterdir()} == {*listed, 'SHA256SUMS', 'SHA256SUMS.asc'}
+    assert sorted(listed) == sorted([*NAMES, *OTHERS]) and len(NAMES) == 23
+    assert {file.name for file in folder.iterdir()} == {
+        *listed, 'SHA256SUMS', *(f'{name}.asc' for name in ('SHA256SUMS', POM, *JARS))}
     return folder
 
 
@@ -214,7 +225,7 @@ NAMED = {'wheel': 'unzip -p *x86_64.whl "*/METADATA"',
          'sdist': 'tar -xOf proved_*.tar.gz --wildcards "*/PKG-INFO"',
          'crate': 'cat *.crate | tar -xzi --to-stdout --wildcards "*/Cargo.toml"',
          'debian': 'dpkg-deb -f libproved-argon2-1_*.deb',
-         'npm': 'tar -xOf *.tgz package/package.json', 'java': 'jar --describe-module --file *.jar',
+         'npm': 'tar -xOf *.tgz package/package.json', 'java': 'jar --describe-module --file *T.jar',
          'go': 'unzip -l *.zip', 'tarball': 'ls proved-*.tar.gz'}
 UNLICENSED = {f'release/{build}/argon2_{name}' for build in machines()['x86_64'].proved for name in ('program', 'tool')}
 
@@ -236,7 +247,7 @@ def test_the_archive_of_the_sources_makes_all_other_packages(tagged, packages, t
         version = run(tree / 'package', '--version', kind).strip()
         assert version in run('bash', '-ec', command, cwd=made), kind
     listed = {line.split()[1]: line.split()[0] for line in read(made / 'SHA256SUMS').splitlines()}
-    assert listed.keys() | {'SHA256SUMS'} == {file.name for file in made.iterdir()} and len(listed) == 14
+    assert listed.keys() | {'SHA256SUMS'} == {file.name for file in made.iterdir()} and len(listed) == 20
     tarball, = (own for name, own in listed.items() if name.endswith(f'-{MACHINE}.tar.gz'))
     assert tarball in read(packages / 'SHA256SUMS')
     assert not [*tree.glob('bindings/out/**/*.[ao]')]  # (nothing was proved, compiled or linked)
@@ -254,7 +265,7 @@ def test_a_jar_contains_the_libraries_whose_compilers_are_there(tmp_path):
     path = {'PATH': tmp_path / 'bin'}
     for machines_asked in None, MACHINE:
         came = start('./package', 'java', '--to', tmp_path, env={**path, 'MACHINES': machines_asked})
-        jar, = tmp_path.glob('*.jar')
+        jar, = tmp_path.glob('*T.jar')
         assert re.findall(r'native/(\S+)', run('unzip', '-l', jar)) == [f'linux-{MACHINE}.so']
         assert re.findall('no library for (.*) in the jar', came.stderr) == (
             [] if machines_asked else ['aarch64', 'windows-x86_64'])
@@ -274,6 +285,133 @@ def test_a_tarball_is_the_same_with_a_libdir_and_replaces_a_link(packages, tmp_p
 def test_lintian_finds_nothing(packages):
     run('lintian', '--allow-root', '--pedantic', '--fail-on', 'error,warning,info,pedantic',
         *(packages / name for name in ASKS))
+
+
+# ---- what each registry wants
+
+FIRST_GO = re.search(r'^```go\n(.*?)^```', read(TOP / 'docs/GO.md'), re.M | re.S)[1]
+MODULE = re.search('^module (.*)$', read(TOP / 'bindings/go/go.mod'), re.M)[1]
+
+
+def commands_for(registry):
+    """The commands of docs/PUBLISHING.md for a registry."""
+    section = read(TOP / 'docs/PUBLISHING.md').partition(f'\n### {registry}\n')[2].partition('\n### ')[0]
+    return '\n'.join(re.findall('^ {4}(.*)$', section, re.M))
+
+
+class PageForGo(http.server.BaseHTTPRequestHandler):
+    """Answers as a proxy for every page of every host. Go finds the repository by this line."""
+
+    def do_GET(self):
+        self.send_response(200)
+        self.end_headers()
+        line, = re.findall('<meta .*>', read(TOP / 'docs/PUBLISHING.md'))
+        self.wfile.write(line.encode())
+
+    def log_message(self, *_):
+        pass
+
+
+@pytest.fixture
+def page_for_go():
+    with http.server.ThreadingHTTPServer(('127.0.0.1', 0), PageForGo) as server:
+        threading.Thread(target=server.serve_forever).start()
+        yield f'http://127.0.0.1:{server.server_port}'
+        server.shutdown()
+
+
+@needs('go')
+def test_go_fetches_the_same_module_from_a_repository_and_a_proxy(packages, page_for_go, tmp_path):
+    origin, served = tmp_path / 'origin', tmp_path / 'served' / MODULE / '@v'
+    run('bash', '-euc', f'git init -q --bare "$0"; git clone -q "$0" "$1/clone"; cp -R "$2" "$1/clone/release"'
+        f'; cd "$1/clone/release"\n{commands_for("Go")}', origin, tmp_path, packages)
+    served.mkdir(parents=True)
+    for end in 'info', 'mod', 'zip':
+        shutil.copy(packages / f'proved-argon2-go-{VERSION}.{end}', served / f'v{VERSION}.{end}')
+    env, sums = {'GOCACHE': tmp_path / 'cache', 'GOFLAGS': '-mod=mod', 'GONOSUMDB': '*', 'GOTOOLCHAIN': 'local',
+                 'HTTP_PROXY': page_for_go, 'HTTPS_PROXY': page_for_go, 'NO_PROXY': None, 'no_proxy': None,
+                 'GOINSECURE': MODULE, 'GIT_CONFIG_COUNT': 1, 'GIT_CONFIG_KEY_0': f'url.{origin}.insteadOf',
+                 'GIT_CONFIG_VALUE_0': f'{PROJECT["Address"]}.git'}, set()
+    for proxy in 'direct', f'file://{tmp_path}/served':
+        folder = tmp_path / proxy[:4]
+        folder.mkdir()
+        (folder / 'main.go').write_text(FIRST_GO, encoding='utf-8')
+        (folder / 'go.mod').write_text('module program\n\ngo 1.19\n', encoding='utf-8')
+        env.update(GOPROXY=proxy, GOPATH=folder / 'path')
+        run('go', 'get', f'{MODULE}@v{VERSION}', cwd=folder, env=env)
+        assert run('go', 'run', '.', cwd=folder, env=env) == 'true <nil>\nfalse <nil>\n'
+        sums.add(read(folder / 'go.sum'))
+    assert len(sums) == 1
+
+
+# Maven takes plugins from Debian's repository.
+SETTINGS = """<settings><localRepository>{0}/repository</localRepository><mirrors><mirror><id>debian</id>
+<mirrorOf>*,!own</mirrorOf><url>file:///usr/share/maven-repo</url></mirror></mirrors></settings>"""
+PROGRAM_OF_MAVEN = """<project xmlns="http://maven.apache.org/POM/4.0.0"><modelVersion>4.0.0</modelVersion>
+<groupId>program</groupId><artifactId>program</artifactId><version>1</version>
+<properties><maven.compiler.release>17</maven.compiler.release></properties>
+<repositories><repository><id>own</id><url>file://{0}/site</url>
+<releases><checksumPolicy>fail</checksumPolicy></releases></repository></repositories>
+<dependencies>{1}</dependencies></project>"""
+
+
+@needs('mvn')
+@pytest.mark.parametrize('way', ['installed', 'uploaded'])
+def test_maven_compiles_a_program(packages, keys, tmp_path, way):
+    """It takes a jar that the page's command installed, or one from a registry, with signatures and checksums."""
+    page, site = read(TOP / 'docs/JAVA.md').replace('-SNAPSHOT', ''), tmp_path / 'site'
+    source = tmp_path / 'src/main/java/Program.java'
+    maven = f'mvn --batch-mode --quiet --settings {tmp_path}/settings.xml '
+    (tmp_path / 'settings.xml').write_text(SETTINGS.format(tmp_path), encoding='utf-8')
+    if way == 'installed':
+        command, = re.findall('^ {4}mvn (.*)$', page, re.M)
+        run('sh', '-euc', maven + command, cwd=packages)
+    else:
+        shutil.copytree(packages, tmp_path / 'made')
+        run('bash', '-euc', f'{commands_for("Maven Central")}\nunzip -q maven.zip -d "$0"', site, cwd=tmp_path / 'made')
+        signed = [file.with_suffix('') for file in site.rglob('*.asc')]
+        assert sorted(file.name for file in signed) == sorted([POM, *JARS]) and len([*site.rglob('*.sha1')]) == 4
+        for file in signed:
+            run('gpg', '--verify', f'{file}.asc', file, env=keys)
+    dependency, = re.findall('^<dependency>.*?^</dependency>', page, re.M | re.S)
+    (tmp_path / 'pom.xml').write_text(PROGRAM_OF_MAVEN.format(tmp_path, dependency), encoding='utf-8')
+    source.parent.mkdir(parents=True)
+    source.write_text('import proved.argon2.*;\nclass Program { public static void main(String[] none) {\n'
+                      f'{first_lines("JAVA.md", 4)}System.out.println(matches); }} }}', encoding='utf-8')
+    run('sh', '-euc', f'{maven} compile', cwd=tmp_path)
+    jar, = (tmp_path / 'repository').rglob(JAR)
+    assert run('java', '-cp', f'{jar}:{tmp_path}/target/classes', 'Program') == 'true\n'
+
+
+@needs('npm')
+def test_npm_would_publish_the_package_without_a_correction(unpacked, tmp_path):
+    """A publisher takes out the mark that it is private."""
+    folder = shutil.copytree(unpacked / NPM / 'package', tmp_path / 'package')
+    fields = json.loads(read(folder / 'package.json'))
+    assert fields.pop('private') and {'repository', 'bugs', 'homepage', 'license', 'author'} <= fields.keys()
+    (folder / 'package.json').write_text(json.dumps(fields), encoding='utf-8')
+    done = start('npm', 'publish', '--dry-run', '--offline', '--cache', tmp_path / 'cache', cwd=folder)
+    warnings = re.findall('npm warn (.*)', done.stderr, re.I)
+    assert done.returncode == 0 and not [line for line in warnings if 'be logged in' not in line], done.stderr
+    assert f'proved-argon2@{VERSION}' in done.stdout
+
+
+@needs('lintian')
+def test_lintian_finds_only_compiled_files_in_the_source_package(packages):
+    """It takes each for one whose source is missing."""
+    said = start('lintian', '--allow-root', '--pedantic', '--display-info', packages / DSC).stdout
+    found = re.findall(r'^(\w): \S+ source: (\S+)(?: \[(.*)\])?$', said, re.M)
+    kinds = {'source-is-missing', *(f'source-contains-prebuilt-{kind}binary' for kind in ('', 'wasm-', 'windows-'))}
+    assert {tag for _, tag, _ in found} == kinds and len(found) == len(said.splitlines())
+    assert all(place.startswith('release/') for _, _, place in found)
+
+
+def test_the_source_package_makes_the_same_packages(packages, tmp_path):
+    run('dpkg-source', '--extract', packages / DSC, tmp_path / 'tree')
+    run('dpkg-buildpackage', '--no-check-builddeps', '--no-sign', '--build=binary', cwd=tmp_path / 'tree',
+        env={'PATH': '/usr/sbin:/usr/bin:/sbin:/bin'})
+    names = [name for name in ASKS if not name.endswith('_arm64.deb')]
+    assert names and not [name for name in names if (tmp_path / name).read_bytes() != (packages / name).read_bytes()]
 
 
 # ---- what is in them
@@ -309,7 +447,7 @@ def test_each_has_both_licences_and_the_pages_of_its_users(unpacked, name):
     for page in ('NOTICE', 'proved-argon2.spdx'):
         assert read(papers / page) == read(TOP / page)
     own = ASKS[name][1].split() if name in ASKS else ['docs/C.md', 'docs/LIBARGON2.md', 'docs/SHELL.md']
-    for page in [] if name in (CRATE, TRAITS, NPM, GO, JAR, SDIST, *WHEELS) else [*OF_ALL, *own]:
+    for page in [] if name in (CRATE, TRAITS, NPM, GO, SDIST, *JARS, *WHEELS) else [*OF_ALL, *own]:
         kept, ours = (re.sub(r'\]\([^)]*\)', ']', read(at / page)) for at in (papers, TOP))
         assert kept == ours, page
     pages = [page for form in ('*.md', 'METADATA') for page in (unpacked / name).rglob(form)]
@@ -409,6 +547,7 @@ def test_the_spdx_file_lists_what_others_have_written(unpacked, tmp_path):
         assert symbols(path), path
     listed = dict(re.findall(r'^PackageName: (.*)\n(?:.+\n)*?PackageComment: <text>(.*)</text>$',
                              read(TOP / 'proved-argon2.spdx'), re.M))
+    found['javadoc'] = {path.name for path in (unpacked / DOCUMENTATION).rglob('*') if path.suffix in ('.css', '.js')}
     assert len(seen) > 12 and not unknown
     assert found == {owner: {*' '.join(re.findall(r' in: (.*?)\.(?= |$)', text)).split()}
                      for owner, text in listed.items()}
@@ -488,7 +627,7 @@ FROM = {
         { echo 'import proved.argon2.*; class First { public static void main(String[] none) {'
         awk '/^```/ { fences++; next } fences == 1' /packages/docs/JAVA.md
         echo 'System.out.println(matches); } }'; } >First.java
-        [[ $(java -cp /packages/*.jar First.java) == true ]]; rm -r /tmp/hsperfdata_*; leaves_nothing''',
+        [[ $(java -cp /packages/*[0-9].jar First.java) == true ]]; rm -r /tmp/hsperfdata_*; leaves_nothing''',
     'libargon2': '''debian/tests/libargon2 libargon2-1; dpkg -i proved-libargon2-*_amd64.deb
         [[ -z $(dpkg --verify proved-libargon2-1 proved-libargon2-dev) && -z $(dpkg --audit) ]]; apt-get check -qq
         if dpkg-query -W -f '${Status}\\n' libargon2-1 libargon2-dev 2>/dev/null | grep ' installed'; then exit 1; fi
@@ -510,10 +649,9 @@ def with_pages(packages, tmp_path_factory):
     project(folder / 'rust', f'fn main() -> Result<(), Box<dyn std::error::Error>> {{{first_lines("RUST.md")}Ok(()) }}',
             f'argon2 = {{ package = "proved-argon2", path = "../proved-argon2-{VERSION}" }}',
             more='[features]\noptional = ["argon2/serde", "argon2/password-hash"]\n')
-    module = re.search('^module (.*)$', read(TOP / 'bindings/go/go.mod'), re.M)[1]
-    (folder / 'go/main.go').write_text(re.search(r'^```go\n(.*?)^```', read(TOP / 'docs/GO.md'), re.M | re.S)[1])
+    (folder / 'go/main.go').write_text(FIRST_GO)
     (folder / 'go/go.mod').write_text(
-        f'module program\ngo 1.19\nrequire {module} v{VERSION}\nreplace {module} => ../{module}@v{VERSION}\n')
+        f'module program\ngo 1.19\nrequire {MODULE} v{VERSION}\nreplace {MODULE} => ../{MODULE}@v{VERSION}\n')
     start('apt-get', '-qq', '-o', 'APT::Sandbox::User=root', 'download', 'libargon2-1', 'libargon2-dev',
           cwd=folder / 'theirs')
     return folder

@@ -2,7 +2,7 @@
  * a call. Arrays are copied, since the garbage collector may move them while a hash is computed, and
  * copies are cleared. This is tested, not proved. */
 #include <jni.h>
-#include <proved_argon2.h>
+#include "proved_argon2.h"
 #include <stdbool.h>
 #include <stdlib.h>
 

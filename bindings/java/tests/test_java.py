@@ -1,4 +1,5 @@
-"""The jar for Java: its own tests in Java 17, 21 and 25, its documentation, and how it loads its library."""
+"""The jar for Java: its own tests in Java 17, 21 and 25, also with a library compiled from C, and how it loads its
+library."""
 import re
 import shutil
 import zipfile
@@ -84,12 +85,16 @@ exec chroot "$system" env -C "$PWD" "${@:2}"
 """
 
 
+def pack(jar, *folders):
+    """Makes the jar, and what is beside it, and returns it. (`pack` fails if a compiler or javadoc warns.)"""
+    run(JAVA / "pack", jar, built("portable") / "portable", *folders, env=DATED)
+    return jar
+
+
 @pytest.fixture(scope="module")
 def jar(tmp_path_factory):
-    """Returns the jar, with only this machine's library. (`pack` fails if a compiler warns.)"""
-    file = tmp_path_factory.mktemp("jar") / "proved-argon2.jar"
-    run(JAVA / "pack", file, built() / MACHINE, env=DATED)
-    return file
+    """Returns the jar, with only this machine's library."""
+    return pack(tmp_path_factory.mktemp("jar") / "proved-argon2.jar", built() / MACHINE)
 
 
 @pytest.fixture(scope="module")
@@ -156,17 +161,26 @@ def test_its_own_tests_pass_on_arm64(classes, drawn, tmp_path):
     if made.returncode == 77:
         pytest.skip("Debian's packages for ARM64 cannot be had")
     assert made.returncode == 0, made.stderr
-    run(JAVA / "pack", jar, built("aarch64") / "aarch64", env=DATED)
+    pack(jar, built("aarch64") / "aarch64")
     java = root / "usr/lib/jvm/java-17-openjdk-arm64/bin/java"
     words = words_of(jar, classes, drawn, *USUAL, "--exclude-tag", "terabytes")
     passes(63, "qemu-aarch64-static", "-L", root, java, *words)
 
 
-def test_each_public_member_is_documented(tmp_path):
-    """A comment of a few words needs no tag for each argument."""
-    done = start("javadoc", "-quiet", "-Xdoclint:all", "-d", tmp_path, *JAVA.rglob("src/**/*.java"))
-    found = [line for line in done.stderr.splitlines() if re.search("(warning|error): ", line)]
-    assert done.returncode == 0 and not [line for line in found if not re.search("warning: no @(param|return)", line)]
+def test_its_own_tests_pass_with_a_library_compiled_from_the_jar_of_sources(classes, drawn, tmp_path):
+    """The jar has no library for this system, and the error names the missing file. The page's commands, which name
+    macOS's headers, make it."""
+    jar, program = pack(tmp_path / "proved-argon2-x.jar"), write_program(tmp_path)
+    library, = re.findall(r"the jar has no (\S+)\. Compile it", start("java", "-cp", jar, program).stderr)
+    commands, = re.findall(r"^    (unzip \S*-sources.jar (?:.*\n)+?)\n", (TOP / "docs/JAVA.md").read_text(), re.M)
+    for old, new in ((r"proved-argon2\S*-sources", f"{jar.stem}-sources"), ("include/darwin", "include/linux"),
+                     ("-o .*", f"-o {library}")):
+        commands, count = re.subn(old, new, commands)
+        assert count == 1
+    (tmp_path / library).parent.mkdir(parents=True)
+    run("sh", "-euc", commands, cwd=tmp_path, env={"JAVA_HOME": headers()[0].parent})
+    run("jar", "--update", "--file", jar, library, cwd=tmp_path)
+    passes(64, "java", *words_of(jar, classes, drawn, *USUAL))
 
 
 def test_each_number_is_a_value_or_its_error(jar, classes, drawn, tmp_path):
@@ -233,7 +247,7 @@ def test_the_service(jar, tmp_path):
 def test_the_native_calls_hash_and_verify_where_no_java_runs(tmp_path, compiler, machine, name, words):
     jar, program = tmp_path / "proved-argon2.jar", tmp_path / "native_calls.exe"
     include = [f"-I{folder}" for folder in headers()]
-    run(JAVA / "pack", jar, TOP / "release" / machine, env=DATED)
+    pack(jar, TOP / "release" / machine)
     with zipfile.ZipFile(jar) as packed:
         library = packed.extract(f"proved/argon2/native/{name}", tmp_path)
     run(compiler, "-std=c11", "-Wall", "-Wextra", "-Werror", *include, JAVA / "tests/native_calls.c", "-o", program)
@@ -264,9 +278,11 @@ def test_the_library_can_be_named_and_a_missing_one_is_an_error(jar, tmp_path):
         packed.extract(f"proved/argon2/native/linux-{MACHINE}.so", tmp_path)
     named, = tmp_path.rglob("*.so")
     assert run("java", f"-Dproved.argon2.library={named}", "-cp", jar, program) == "false\n"
-    for wrong in ("-Dproved.argon2.library=/nowhere.so", "-Dos.arch=sparc", "-Djava.io.tmpdir=/nowhere"):
+    for wrong in ("-Dproved.argon2.library=/nowhere.so", "-Djava.io.tmpdir=/nowhere"):
         done = start("java", wrong, "-cp", jar, program)
         assert done.returncode == 1 and "UnsatisfiedLinkError" in done.stderr, done.stderr
+    done = start("java", "-Dos.name=Mac OS X", "-Dos.arch=aarch64", "-cp", jar, program)
+    assert done.returncode == 1 and "the jar has no proved/argon2/native/mac-aarch64.so" in done.stderr, done.stderr
 
 
 # Runs a command with a folder on which nothing can be written, or from which nothing can be loaded.

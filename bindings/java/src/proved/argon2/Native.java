@@ -26,10 +26,14 @@ final class Native {
      */
     private static final String PROPERTY = "proved.argon2.library";
 
+    /** What to do if there is no library for this system. */
+    private static final String MISSING = "the jar has no proved/argon2/native/%s. Compile it from the C code in the "
+        + "jar of sources (docs/JAVA.md), and name it with -D" + PROPERTY + "=FILE";
+
     /** What to do if a library cannot be loaded, and why it cannot. */
     private static final String REMEDIES = "%s cannot be loaded: %s. If temporary folders are read-only or mounted "
-        + "noexec, name another one with -Djava.io.tmpdir=FOLDER, or unpack the library from the jar, or build it, and "
-        + "name it with -D" + PROPERTY + "=FILE";
+        + "noexec, name another one with -Djava.io.tmpdir=FOLDER, or unpack the library from the jar, and name it with "
+        + "-D" + PROPERTY + "=FILE";
 
     static {
         String named = System.getProperty(PROPERTY);
@@ -74,17 +78,18 @@ final class Native {
 
     /** Loads the library of the jar. */
     private static void loadOwn() {
-        String system = System.getProperty("os.name").toLowerCase(Locale.ROOT);
+        String system = System.getProperty("os.name").toLowerCase(Locale.ROOT).split(" ")[0]; // `mac os x`
         String machine = System.getProperty("os.arch").replace("amd64", "x86_64");
-        String file = system.startsWith("windows") ? "windows-" + machine + ".dll" : system + "-" + machine + ".so";
+        String file = system + "-" + machine + (system.equals("windows") ? ".dll" : ".so");
         try (InputStream library = Native.class.getResourceAsStream("native/" + file)) {
-            if (library == null) {
-                throw new UnsatisfiedLinkError("the jar has no such library");
+            if (library != null) {
+                loadCopy(library, file);
+                return;
             }
-            loadCopy(library, file);
         } catch (IOException | UnsatisfiedLinkError error) {
             throw (Error) new UnsatisfiedLinkError(REMEDIES.formatted(file, error.getMessage())).initCause(error);
         }
+        throw new UnsatisfiedLinkError(MISSING.formatted(file));
     }
 
     /** Loads a library from a private folder, which is deleted if the system allows that. */
