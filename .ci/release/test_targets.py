@@ -4,13 +4,15 @@
   calls (SEED, or any) of our libargon2 beside Debian's, the crate's tests, packages.
 - The machine code of the library for Windows (build/link) has to be what the toolchain made for Linux, touch nothing
   below the stack pointer, and extend a stack page by page. The crate passes its tests.
-- The library as C compiles for systems of which only a compiler is here, and ./install compiles it.
+- The library as C, and C's calls for Go and Java, compile for systems of which only a compiler is here, and ./install
+  compiles it.
 """
 import os
 import re
 import secrets
 import shutil
 import sys
+from pathlib import Path
 
 import pytest
 from machines import machines
@@ -46,6 +48,7 @@ DECLARED = {
                 'void free(void *), abort(void);',
     'string.h': 'void *memcpy(void *, const void *, size_t), *memmove(void *, const void *, size_t);\n'
                 'void *memset(void *, int, size_t);\nsize_t strlen(const char *);',
+    'stdio.h': '',
     'sys/random.h': 'int getentropy(void *, size_t);',
     'time.h': 'struct timespec {\n    long tv_sec, tv_nsec;\n};\n#define CLOCK_MONOTONIC 6\n'
               'int clock_gettime(int, struct timespec *);',
@@ -301,13 +304,32 @@ def test_a_changed_byte_of_code_or_constants_is_found(made, tmp_path, of):
 
 # ---- the library as C
 
-@pytest.mark.parametrize('target', ['x86_64-apple-macos11', 'arm64-apple-macos11', 'x86_64-freebsd14'])
-def test_compiles_for(target, tmp_path):
+TARGETS = 'x86_64-apple-macos11', 'arm64-apple-macos11', 'x86_64-freebsd14'
+
+
+def compile_for(target, folder, file, *words):
+    """Compiles a file without the headers of the target's system."""
     for name, text in DECLARED.items():
-        (tmp_path / name).parent.mkdir(exist_ok=True)
-        (tmp_path / name).write_text(f'#include <stddef.h>\n{text}\n', encoding='utf-8')
+        (folder / name).parent.mkdir(exist_ok=True)
+        (folder / name).write_text(f'#include <stddef.h>\n{text}\n', encoding='utf-8')
+    output_of('clang', f'--target={target}', '-nostdlibinc', '-isystem', folder, *WARNINGS, *words, '-c', file, '-o',
+              '/dev/null')
+
+
+@pytest.mark.parametrize('target', TARGETS)
+def test_compiles_for(target, tmp_path):
     files = sorted((ready('portable') / 'portable').glob('*.c'))
     assert len(files) == 10
     for file in files:
-        output_of('clang', f'--target={target}', '-nostdlibinc', '-isystem', tmp_path, *WARNINGS, '-c', file, '-o',
-                  '/dev/null')
+        compile_for(target, tmp_path, file)
+
+
+@pytest.mark.parametrize('target', TARGETS)
+def test_the_calls_of_go_and_java_compile_for(target, tmp_path):
+    """Go's are the C code of calls.go. Java's are compiled with JNI's headers for Linux."""
+    jdk = Path(shutil.which('javac')).resolve().parents[1] / 'include'
+    calls = (TOP / 'bindings/go/calls.go').read_text(encoding='utf-8')
+    (tmp_path / 'calls.c').write_text(re.search(r'/\*\n(?:#cgo.*\n)+(.*?)\*/', calls, re.S)[1], encoding='utf-8')
+    for file in tmp_path / 'calls.c', TOP / 'bindings/java/native/proved_argon2_java.c':
+        compile_for(target, tmp_path, file, '-I', INCLUDE, '-isystem', jdk, '-isystem', jdk / 'linux',
+                    '-Wno-unused-function', '-Wno-unused-parameter')

@@ -1,14 +1,17 @@
-//go:build (linux && (amd64 || arm64)) || (windows && amd64)
-
 package argon2
 
 // This file makes the calls of the C library. It has all cgo and unsafe code of the module; calls_go124.go has only cgo
 // directives. The library is passed pointers to the bytes of slices, without copies, and keeps none of them.
+//
+// An archive contains the library for each system below. For others, and with the tag, cgo compiles the C files of this
+// folder, which contain the library as C.
 
 /*
-#cgo linux,amd64 LDFLAGS: ${SRCDIR}/libproved_argon2_linux_amd64.a -lpthread
-#cgo linux,arm64 LDFLAGS: ${SRCDIR}/libproved_argon2_linux_arm64.a -lpthread
-#cgo windows,amd64 LDFLAGS: ${SRCDIR}/libproved_argon2_windows_amd64.a -ladvapi32
+#cgo linux,amd64,!proved_argon2_portable LDFLAGS: ${SRCDIR}/libproved_argon2_linux_amd64.a
+#cgo linux,arm64,!proved_argon2_portable LDFLAGS: ${SRCDIR}/libproved_argon2_linux_arm64.a
+#cgo windows,amd64,!proved_argon2_portable LDFLAGS: ${SRCDIR}/libproved_argon2_windows_amd64.a
+#cgo windows LDFLAGS: -ladvapi32
+#cgo !windows LDFLAGS: -lpthread
 #include "proved_argon2.h"
 
 #define PASS(bytes) (bytes).at, (bytes).length

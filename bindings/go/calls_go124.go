@@ -1,4 +1,4 @@
-//go:build go1.24 && ((linux && (amd64 || arm64)) || (windows && amd64))
+//go:build go1.24
 
 package argon2
 

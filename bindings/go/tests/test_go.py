@@ -110,11 +110,17 @@ def env(tmp_path_factory):
             "GOSUMDB": "off", "GOTOOLCHAIN": "local", "CGO_ENABLED": 1}
 
 
-def copy_module(folder, archive=None):
-    """Returns the module with the archives and the headers, beside the tables that its tests read."""
-    module = shutil.copytree(MODULE, folder / "bindings/go", ignore=shutil.ignore_patterns("*.a", "proved_argon2*.h"))
+def beside_tables(folder, module, *without):
+    """Copies a module, but for some files, beside the tables that its tests read."""
+    copied = shutil.copytree(module, folder / "bindings/go", ignore=shutil.ignore_patterns(*without))
     for name in ("tests", "vectors"):
         (folder / "bindings" / name).symlink_to(TOP / "bindings" / name)
+    return copied
+
+
+def copy_module(folder, archive=None):
+    """Returns the module with the archives and the headers, beside the tables that its tests read."""
+    module = beside_tables(folder, MODULE, "*.a", "proved_argon2*.h")
     for header in (TOP / "bindings/c/include").iterdir():
         shutil.copy(header, module)
     archives = {f"linux_{ARCH}": archive or built() / MACHINE / "libproved_argon2.a"}
@@ -181,11 +187,10 @@ def test_the_build_is_chosen_for_the_processor(module, env, build):
     assert (done.returncode == 0) == (build != "none") and ("is too old" in done.stdout) == (build == "none"), done
 
 
-def test_without_cgo_or_a_library_the_build_says_why(module, env):
-    why = 'cannot use "argon2 needs cgo, a C compiler, and linux/amd64, linux/arm64 or windows/amd64: set CGO_ENABLED=1'
-    for more in ({"CGO_ENABLED": 0}, {"GOARCH": "riscv64"}):
-        refuses(1 if "go1.2" in run("go", "version") else 2, why, "go", "build", "./...", cwd=module,
-                env={**env, **more})
+def test_without_cgo_the_build_says_why(module, env):
+    why = 'cannot use "argon2 needs cgo and a C compiler: set CGO_ENABLED=1 and CC"'
+    refuses(1 if "go1.2" in run("go", "version") else 2, why, "go", "build", "./...", cwd=module,
+            env={**env, "CGO_ENABLED": 0})
 
 
 def test_threads_that_are_denied_change_no_hash(module, env, drawn, tmp_path):
@@ -417,24 +422,47 @@ def package(tmp_path_factory):
     return made
 
 
-@pytest.mark.parametrize("way", ["replace", "proxy"])
-def test_a_program_is_built_with_the_package(package, env, tmp_path, way):
-    """go.mod names the unpacked package with the lines of the page, or Go gets it from a folder as from a proxy."""
+def test_a_program_is_built_with_the_package(package, env, tmp_path):
+    """go.mod names the unpacked package with the lines of the page."""
     run("unzip", "-q", package, "-d", tmp_path / "modules")
     folder = tmp_path / "program"
     folder.mkdir()
     (folder / "main.go").write_text(MAIN)
     lines = re.search(r"^    \./package go .*\n((?:    .*\n)+)", PAGE, re.M)[1]
     run("sh", "-ec", f"go mod init program\n{lines}", cwd=folder, env={**env, "HOME": tmp_path})
-    if way == "proxy":
-        served = tmp_path / "served" / NAME / "@v"
-        served.mkdir(parents=True)
-        version = "v" + package.stem.removeprefix("proved-argon2-go-")
-        shutil.copy(package, served / f"{version}.zip")
-        shutil.copy(tmp_path / f"modules/{NAME}@{version}/go.mod", served / f"{version}.mod")
-        (served / f"{version}.info").write_text(f'{{"Version": "{version}"}}')
-        text = (folder / "go.mod").read_text()
-        (folder / "go.mod").write_text(text.partition("\nreplace")[0] + "\n")
-        env = {**env, "GOPROXY": f"file://{tmp_path}/served", "GOPATH": tmp_path / "path",
-               "GOFLAGS": "-modcacherw -mod=mod"}
     assert run("go", "run", ".", cwd=folder, env=env) == TAG
+
+
+# ---- the library as C
+
+@pytest.fixture(scope="session")
+def module_in_c(package, tmp_path_factory):
+    """Returns the packed module without its archives, beside the tables that its tests read."""
+    folder = tmp_path_factory.mktemp("in_c")
+    run("unzip", "-q", package, "-d", folder / "packed")
+    packed, = folder.glob(f"packed/{NAME}@*")
+    module = beside_tables(folder, packed, "*.a")
+    for file in MODULE.glob("*_test.go"):
+        shutil.copy(file, module)
+    return module
+
+
+def test_the_tests_pass_with_the_library_as_c(module_in_c, env, drawn):
+    run("go", "test", "-count=1", "-tags", "proved_argon2_portable", ".", cwd=module_in_c, env={**env, **drawn})
+
+
+def test_for_macos_cgo_compiles_the_library_as_c(module_in_c, env):
+    """Go only lists its files, since a build takes Apple's headers."""
+    said = run("go", "list", "-f", "{{.CFiles}} {{.CgoFiles}} {{.CgoLDFLAGS}}", cwd=module_in_c,
+               env={**env, "GOOS": "darwin", "GOARCH": "arm64"})
+    files = {*re.findall(r"\w+\.c", said)}
+    assert {"proved_argon2_module.c", "platform_other.c"} <= files and said.endswith("[calls.go] [-lpthread]\n"), said
+
+
+@needs("riscv64-linux-gnu-gcc", "qemu-riscv64-static")
+def test_the_tests_pass_where_there_is_no_archive(module_in_c, env, tmp_path):
+    """Some tests run on RISC-V. The others measure or, under qemu, take long."""
+    run("go", "test", "-c", *LINKED, "-o", tmp_path / "tests", cwd=module_in_c,
+        env={**env, "CC": "riscv64-linux-gnu-gcc", "GOARCH": "riscv64"})
+    run("qemu-riscv64-static", tmp_path / "tests", "-test.run", "Example|EncodedHashes|EveryError|Peppers",
+        cwd=module_in_c)
