@@ -407,6 +407,10 @@ static void check_refused(void)
     refuse_request(1);
     errno = 77;
     check_code(proved_argon2_buffers_new(&usual, 1, &made), PROVED_ARGON2_OUT_OF_MEMORY, "a denied handle");
+    deny_mappings(true);
+    const uint32_t code = proved_argon2_buffers_new(&usual, 1 << 28, &made);
+    deny_mappings(false);
+    check_code(code, PROVED_ARGON2_OUT_OF_MEMORY, "a handle of so many places that their bytes exceed 32 bits");
     check(made == before && errno == 77, "nothing is written");
     proved_argon2_buffers_free(NULL);
 }

@@ -234,8 +234,9 @@ static void check_memory_new(uint32_t mem_cost)
     check(held == 0 && errno == 77, "and is given back");
 }
 
-/* The archive's own memmove, by which all its objects move bytes. */
+/* The archive's own memmove and memset, by which all its objects move and set bytes. */
 void *proved_driver_memmove(void *to, const void *from, size_t len);
+void *proved_driver_memset(void *to, int byte, size_t len);
 
 /* Bytes are moved as by the system's memmove, for each short length and overlap. */
 static void check_moving(void)
@@ -252,6 +253,24 @@ static void check_moving(void)
         good &= memcmp(moved, expected, sizeof moved) == 0;
     }
     check(good, "bytes that overlap are moved");
+}
+
+/* Bytes are set as by the system's memset, for each short length. Of a number, only the lowest byte counts. */
+static void check_setting(void)
+{
+    enum { PLACES = 40 };
+    static const int numbers[] = {0, 7, 255, 300, -2};
+    uint8_t set[PLACES], expected[PLACES];
+    bool good = true;
+    for (size_t n = 0; n < PLACES * sizeof numbers / sizeof *numbers; n++) {
+        const int number = numbers[n / PLACES];
+        fill_bytes(set, sizeof set, 1);
+        fill_bytes(expected, sizeof expected, 1);
+        proved_driver_memset(set, number, n % PLACES);
+        memset(expected, number, n % PLACES);
+        good &= memcmp(set, expected, sizeof set) == 0;
+    }
+    check(good, "bytes are set");
 }
 
 #define REFUSED_TEXT(text) text, strlen(text), NULL, 0, NULL, 0, NULL, 0
@@ -312,6 +331,7 @@ int main(int argc, char **argv)
     check_memory_new(SMALL);
     check_memory_new(LARGE);
     check_moving();
+    check_setting();
     check_without_memory();
     return finish();
 }

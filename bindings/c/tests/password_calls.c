@@ -7,7 +7,7 @@
 ssize_t __wrap_getrandom(void *buffer, size_t length, unsigned flags);
 
 static int no_random_bytes, interruptions;
-static size_t asked_for;
+static size_t asked_for, missing;
 
 /* 0x80, 0x81 and so on. */
 ssize_t __wrap_getrandom(void *buffer, size_t length, unsigned flags)
@@ -19,7 +19,7 @@ ssize_t __wrap_getrandom(void *buffer, size_t length, unsigned flags)
         return -1;
     }
     fill_bytes((uint8_t *)buffer, length, 0x80);
-    return (ssize_t)length;
+    return (ssize_t)(length - missing);
 }
 
 /* ---- passwords */
@@ -58,6 +58,10 @@ static void check_password(void)
     code = proved_argon2_password_hash(text, "password", 8);
     no_random_bytes = 0;
     check_code(code, PROVED_ARGON2_NO_RANDOM_BYTES, "no random bytes");
+    missing = 1;
+    code = proved_argon2_password_hash(text, "password", 8);
+    missing = 0;
+    check_code(code, PROVED_ARGON2_NO_RANDOM_BYTES, "a random byte too few");
     check(memcmp(text, other, sizeof text) == 0 && errno == 77, "the text is as it was, and so is errno");
     interruptions = 3;
     code = proved_argon2_password_hash(text, "password", 8);
@@ -175,6 +179,7 @@ static void check_other_salt(const char *text)
 static void check_rehash(void)
 {
     static const char old[] = "$argon2i$m=256,t=2,p=2$c29tZXNhbHQ$tsEVYKap1h6scGt5ovl9aLRGOqOth+AMB+KwHpDFZPs";
+    static const char endless[] = "$argon2i$m=8,t=4294967295,p=1$c29tZXNhbHQ$AAAAAA";
     static uint64_t one_block[128];
     const proved_argon2_settings new_settings = proved_argon2_owasp2();
     const proved_argon2_limits least = {8, 1, 1, 8};
@@ -196,6 +201,7 @@ static void check_rehash(void)
     options.memory = NULL;
     options.progress = stop;
     check_code(rehash_verdict(options, old, "password", 0), PROVED_ARGON2_STOPPED, "a call that is stopped");
+    check_code(rehash_verdict(options, endless, "password", 0), PROVED_ARGON2_STOPPED, "no limit of work");
 }
 
 /* ---- a user who does not exist */
@@ -229,6 +235,8 @@ static void check_unknown(void)
     check_code(code, PROVED_ARGON2_MISMATCH, "an unknown user never matches, even without a password or a pepper");
     code = proved_argon2_password_verify_unknown(&with, &invalid, "password", 8, NULL, 0);
     check_code(code, PROVED_ARGON2_TIME_TOO_SMALL, "an unknown user with settings that no hash has");
+    code = proved_argon2_password_verify_unknown(&with, &settings, "", 0, pepper, (size_t)UINT32_MAX + 1);
+    check_code(code, PROVED_ARGON2_SECRET_TOO_LONG, "an unknown user with a pepper that is too long");
     const proved_argon2_settings long_tag = {PROVED_ARGON2_ID, PROVED_ARGON2_VERSION_13, 64, 1, 1, 1000};
     code = proved_argon2_password_verify_unknown(&with, &long_tag, "password", 8, NULL, 0);
     check_code(code, PROVED_ARGON2_MISMATCH, "an unknown user with a tag longer than the text of other calls");

@@ -161,7 +161,7 @@ static void check_refused(const proved_argon2_options *with, uint32_t expected, 
 static void check_options(void)
 {
     uint8_t tag[LONGEST];
-    static _Alignas(8) uint8_t memory[256 * 1024 + 1];
+    static _Alignas(8) uint8_t memory[256 * 1024 + 4];
     proved_argon2_options with = by(4);
     check_refused(NULL, PROVED_ARGON2_NULL_POINTER, "no options");
     with.size = 0;
@@ -182,10 +182,10 @@ static void check_options(void)
     check_code(hash_raw(&longer.known, &sample, tag), PROVED_ARGON2_OK, "options of a later version with nothing more");
     with = by(4);
     memset(memory, 1, sizeof memory);
-    with.memory = memory + 1;
+    with.memory = memory + 4;
     with.memory_len = 256 * 1024;
-    check_refused(&with, PROVED_ARGON2_MISALIGNED, "a memory at an odd address");
-    check(memory[1] == 1 && memory[256 * 1024] == 1, "it is as it was");
+    check_refused(&with, PROVED_ARGON2_MISALIGNED, "a memory at a multiple of 4");
+    check(memory[4] == 1 && memory[256 * 1024 + 3] == 1, "it is as it was");
     with.memory = memory;
     with.memory_len = 256 * 1024 - 1;
     check_refused(&with, PROVED_ARGON2_OUT_OF_MEMORY, "a memory that is a byte short");

@@ -14,11 +14,11 @@ enum { MOST_HASHES = 64 };
 static const proved_argon2_settings most = {PROVED_ARGON2_ID, PROVED_ARGON2_VERSION_13, 65536, 0, 1, 32};
 
 /* The hashes: one takes 3 milliseconds for each MiB, times its passes to this power, and times `slower` if it is one of
- * the disturbed ones, which are bits by number. */
+ * the disturbed ones, which are bits by number. So are those that are denied memory, before they begin. */
 static struct {
     uint64_t now; /* in nanoseconds */
     uint32_t power;
-    uint64_t disturbed, slower;
+    uint64_t disturbed, slower, denied;
     uint32_t hashes, code; /* how many there were, and what they return unless they are stopped */
     proved_argon2_options with;
     proved_argon2_settings tried[MOST_HASHES];
@@ -59,6 +59,9 @@ uint32_t __wrap_proved_argon2_password_verify_unknown(const proved_argon2_option
     time *= own.disturbed >> number & 1 ? own.slower : 1;
     own.with = *options;
     own.tried[number] = *settings;
+    if ((own.denied >> number & 1) != 0) {
+        return PROVED_ARGON2_OUT_OF_MEMORY;
+    }
     for (uint64_t done = 1; done <= slices; done++) {
         own.now += done * time / slices - (done - 1) * time / slices;
         if (options->progress(options->arg, done, slices) != 0) {
@@ -100,6 +103,7 @@ static const struct row {
     {125, 65536, 1, 8192, 5},
     {150, 19456, 1, 19456, 2},
     {105, 7168, 1, 7168, 5},
+    {189, 7168, 1, 7168, 9},
     {200, 7168, 1, 7168, 9},
     {191, 65536, 0, 32768, 3},
     {700, 65536, 2, 65536, 1},
@@ -239,6 +243,9 @@ static void check_errors(void)
     own.code = PROVED_ARGON2_OUT_OF_MEMORY;
     check_code(tune(200, 65536, &found), PROVED_ARGON2_OUT_OF_MEMORY, "an error of a hash ends it");
     check(own.hashes == 1 && found.settings.mem_cost == 0, "at once");
+    begin(1);
+    own.denied = 2;
+    check_code(tune(20, 1048576, &found), PROVED_ARGON2_OUT_OF_MEMORY, "also behind a hash that was stopped");
     begin(1);
     bad.variant = 3;
     check_code(proved_argon2_tune(&options, &bad, 1, &found), PROVED_ARGON2_INCORRECT_TYPE, "no such variant");
