@@ -14,6 +14,7 @@ func TestPeppersRenewHashes(t *testing.T) {
 	copy(key.Key, "xxx") // a caller may clear its key, since the peppers have copies
 	key.Key = []byte("new")
 	equal := must(NewPeppers(hasher, Pepper{"2026", old.Key}, old))
+	limited := must(NewPeppers(hasher.Within(Limits{64, 1, 1, 63}), key, old))
 	for i, c := range []struct {
 		peppers          *Peppers
 		stored           Stored
@@ -32,6 +33,8 @@ func TestPeppersRenewHashes(t *testing.T) {
 		{both.AcceptUnpeppered(), of(none), true, true, nil},
 		{both.AcceptUnpeppered(), of(Pepper{"2024", nil}), false, false, ErrUnknownPepper},
 		{both, Stored{"2026", "x"}, false, false, ErrDecodingFail},
+		{limited, of(key), false, false, ErrTooCostly},
+		{limited.AcceptUnpeppered(), of(none), false, false, ErrTooCostly},
 	} {
 		matches, updated, err := c.peppers.VerifyAndUpdate(ctx, c.stored, password)
 		if matches != c.matches || (updated != nil) != c.renewed || err != c.err {

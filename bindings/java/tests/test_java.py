@@ -130,7 +130,7 @@ USUAL = "--exclude-tag", "codes", "--exclude-tag", "denied"
 
 
 def test_its_own_tests_pass_in_java_17(jar, classes, drawn):
-    passes(64, "java", *words_of(jar, classes, drawn, *USUAL))
+    passes(65, "java", *words_of(jar, classes, drawn, *USUAL))
 
 
 @pytest.fixture(scope="module")
@@ -149,7 +149,7 @@ def system(tmp_path_factory):
 def test_its_own_tests_pass_in_newer_java(jar, classes, drawn, system, version):
     folders = TOP, jar.parent, drawn["RANDOM_HASHES"].parent, "/usr/share/java", "/usr/share/maven-repo"
     java = f"/usr/lib/jvm/java-{version}-openjdk-amd64/bin/java"
-    passes(64, "unshare", "--mount", "--propagation", "private", "bash", "-euc", ELSEWHERE, "bash", system, *folders,
+    passes(65, "unshare", "--mount", "--propagation", "private", "bash", "-euc", ELSEWHERE, "bash", system, *folders,
            "--", java, *words_of(jar, classes, drawn, *USUAL))
 
 

@@ -183,6 +183,7 @@ test('each call has options of its own, and no salt', async () => {
     assert.notEqual(hashes[0].encoded, hashes[1].encoded);
     assert.deepEqual(await hasher.verifyAndUpdate('2026', hashes[0].encoded, 'password', options), right);
     assert.deepEqual(await hasher.verifyAndUpdate('2026', hashes[0].encoded, 'password'), wrong);
+    assert.match((await hasher.hash('password', { timeCost: 2 })).encoded, /m=64,t=2,p=2/);
 });
 
 test('wrong peppers are rejected, and keys are copied and not shown', async () => {

@@ -15,6 +15,7 @@ from proved_argon2 import (
 from proved_argon2.exceptions import (
     HashingError,
     InvalidHashError,
+    TooCostlyError,
     UnknownPepperError,
     VerificationError,
     VerifyMismatchError,
@@ -107,6 +108,14 @@ def test_a_hash_without_pepper_is_accepted_during_a_migration_only():
     assert hasher.verify_and_update(key_id, renewed, "password") == (True, None)
     with pytest.raises(UnknownPepperError):
         hasher.verify_and_update("2025", renewed, "password")
+
+
+def test_the_limits_are_those_of_hashes_with_each_pepper_and_without_one():
+    small = {**SMALL, "memory_cost": 16}
+    hasher = PepperedHasher(PEPPERS, accept_unpeppered=True, limits=Limits(memory_cost=63), **small)
+    for key_id, key in {**PEPPERS, None: b""}.items():
+        with pytest.raises(TooCostlyError):
+            hasher.verify_and_update(key_id, hash_with(key), "password")
 
 
 @pytest.mark.parametrize("accept", ["false", "", 1, None])

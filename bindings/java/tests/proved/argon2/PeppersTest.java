@@ -50,6 +50,15 @@ class PeppersTest {
     }
 
     @Test
+    void aHashWithoutAPepperHasTheOtherOptionsOfTheHasher() {
+        PasswordHasher ofUser = hasher.withAssociatedData(HashesTest.bytes("user"));
+        String bare = ofUser.hash(PASSWORD);
+        assertTrue(new Peppers(ofUser, newer).acceptUnpeppered().verifyAndUpdate(null, bare, PASSWORD).matches());
+        Peppers limited = new Peppers(ofUser.withLimits(new Limits(63, 2, 1, 126)), newer).acceptUnpeppered();
+        assertFails(TOO_COSTLY, () -> limited.verifyAndUpdate(null, bare, PASSWORD));
+    }
+
+    @Test
     void wrongPeppersAreRejected() {
         for (Pepper[] wrong : new Pepper[][] {{}, {newer, newer}, {newer, new Pepper("a", new byte[0])},
             {new Pepper(null, newer.key())}}) {
