@@ -256,7 +256,7 @@ def test_a_call_of_a_place_uses_the_buffers_of_its_line(ask, name):
     assert ask([(name, "line", {})])[0].split("|")[3] == "65536"
 
 
-@pytest.mark.parametrize("how", ["alone", "over"])
+@pytest.mark.parametrize("how", ["alone", "over", "peppers"])
 def test_a_login_of_an_unknown_user_computes_one_hash_with_the_settings_and_never_matches(ask, how):
     numbers = [0, HEADER["MISMATCH"], HEADER["OUT_OF_MEMORY"], HEADER["OLD_PROCESSOR"]]
     said = ask(("verify_unknown", how, {"then": number}) for number in numbers)

@@ -52,6 +52,10 @@ fn call(name: &str, how: &str, memory: &mut Memory) -> Box<dyn Debug> {
         ("verify_encoded_within", "over") => Box::new(verify_encoded_within_in(memory, TEXT, WORD, KEY, DATA, &LIMITS)),
         ("verify_unknown", "alone") => Box::new(verify_unknown(WORD, &CONFIG)),
         ("verify_unknown", "over") => Box::new(Run::new().over(memory).verify_unknown(WORD, &CONFIG)),
+        ("verify_unknown", _) => {
+            let config = Config { secret: b"no effect", ..CONFIG };
+            Box::new(Peppers::new(&[("2026", KEY)], config).unwrap().verify_unknown(&mut Run::new(), WORD))
+        }
         ("tune", _) => {
             let found = tune(Duration::from_nanos(77), &CONFIG);
             Box::new(found.map(|found| found.map(|found| (found.config == CONFIG, found.time))))
