@@ -64,6 +64,14 @@ def test_pkg_config_knows_the_version_and_the_address(installed):
     assert f"URL: {address}\n" in (installed / "lib/pkgconfig/proved_argon2.pc").read_text()
 
 
+def test_pkg_config_knows_the_version_of_libargon2_that_is_replaced(installed):
+    """Programs ask for it or for an older one, such as Debian's."""
+    said = run("pkg-config", "--modversion", "libargon2", env={
+        "PKG_CONFIG_PATH": installed / "lib/proved-libargon2/pkgconfig"})
+    versions = re.search(r"^\| \| libargon2 (\d+), (\d+) \|", (TOP / "docs/LIBARGON2.md").read_text(), re.M)
+    assert said.split() == [versions[2]] and int(versions[1]) < int(versions[2])
+
+
 def configure(installed, folder, version):
     return start("cmake", "-S", "bindings/c/example", "-B", folder, f"-DCMAKE_PREFIX_PATH={installed}",
                  f"-DREQUESTED={version}", f"-DCMAKE_C_COMPILER={CC}")
