@@ -340,7 +340,8 @@ def test_the_code_of_the_page_runs(module, env, tmp_path):
     (folder / "functions.go").write_text(
         f'package main\n\nimport (\n    "context"\n\n    "{NAME}"\n)\n\n' + "\n".join(others))
     run("go", "vet", ".", cwd=folder, env=env)
-    assert run("go", "run", ".", cwd=folder, env=env) == "true <nil>\nfalse <nil>\n"
+    said = run("go", "run", ".", cwd=folder, env=env).splitlines()
+    assert said == re.findall("Println.*// (.*)", first) == ["true <nil>", "false <nil>"]
 
 
 def test_the_page_names_each_exported_name():
