@@ -365,7 +365,7 @@ class Terminal:
             assert not self.echoes(), ("the terminal echoes at a prompt", self.shown)
             assert self.ignores(signal.SIGTSTP), "it can be suspended without an echo"
             os.write(self.master, keys)
-        self.output = self.run.communicate(timeout=6000)[0]
+        self.output = self.run.communicate(timeout=600)[0]
         self.end = self.run.returncode, self.output
         self.read()
         assert self.echoes(), "the echo is not back"
