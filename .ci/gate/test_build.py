@@ -100,7 +100,10 @@ def test_release_is_built_in_a_folder_that_has_only_its_sources(tmp_path):
 
 def test_no_header_of_the_tree_is_found_in_place_of_the_system_s(tmp_path):
     """It could rename the library's calls, and put other ones in their place."""
-    copy_parts(tmp_path, 'VERSION', 'build', 'bindings', 'release/x86-64-v2', 'release/x86-64-v3', 'release/x86-64-v4')
+    proved = 'x86-64-v2', 'x86-64-v3', 'x86-64-v4'
+    if run('build/check_release', *proved).returncode == 1:
+        pytest.skip('release/ is of other sources')
+    copy_parts(tmp_path, 'VERSION', 'build', 'bindings', *(f'release/{build}' for build in proved))
     for folder in 'c/include', 'c/src', 'libargon2', 'javascript/addon', 'shell':
         for name in 'stdint.h', 'stdlib.h', 'bits/stdint-uintn.h':
             (tmp_path / 'bindings' / folder / 'bits').mkdir(exist_ok=True)
