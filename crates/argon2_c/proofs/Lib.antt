@@ -7,3 +7,4 @@ pub mod Endings
 pub mod Finishing
 pub mod Fillings
 pub mod Driver
+pub mod Alone
