@@ -28,6 +28,7 @@ def test_a_file_is_current_only_with_its_sources_and_its_bytes(tmp_path, file, t
 
 SUM = hashlib.sha256(b'built').hexdigest()
 PROGRAMS, OTHER = ('x86-64-v2/argon2_program', 'x86-64-v2/argon2_tool'), 'x86-64-v2/libargon2_c.a'
+FILES = *PROGRAMS, OTHER, 'x86-64-v2/kept'
 
 
 @pytest.mark.parametrize('absent, forged, tracked, is_well', [
@@ -35,12 +36,13 @@ PROGRAMS, OTHER = ('x86-64-v2/argon2_program', 'x86-64-v2/argon2_tool'), 'x86-64
     (PROGRAMS[:1], None, OTHER, False), ((*PROGRAMS, OTHER), None, OTHER, False),
     (PROGRAMS[:1], PROGRAMS[1], OTHER, False), (PROGRAMS, OTHER, OTHER, False)])
 def test_only_an_archive_lacks_files_and_only_those_without_a_licence(tmp_path, absent, forged, tracked, is_well):
-    """In a repository that begins with an archive, git tracks none of them."""
+    """In a repository that begins with an archive, git tracks none of them. A file is kept, since an empty list is
+    rejected by itself."""
     release = tmp_path / 'release'
     (release / OTHER).parent.mkdir(parents=True)
-    for name in *PROGRAMS, OTHER:
+    for name in FILES:
         (release / name).write_text('built', encoding='utf-8')
-    (release / 'MANIFEST').write_text(''.join(f'{SUM}  {name}\n' for name in (*PROGRAMS, OTHER)), encoding='utf-8')
+    (release / 'MANIFEST').write_text(''.join(f'{SUM}  {name}\n' for name in FILES), encoding='utf-8')
     run('bash', '-ec', f'git init -q ..; git add {tracked}', cwd=release)
     for name in absent:
         (release / name).unlink()
