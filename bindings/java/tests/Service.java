@@ -16,6 +16,7 @@ import java.util.Map;
 import java.util.concurrent.ConcurrentHashMap;
 import java.util.concurrent.Executors;
 import java.util.concurrent.ThreadLocalRandom;
+import java.util.concurrent.ThreadPoolExecutor;
 import java.util.function.IntConsumer;
 import proved.argon2.PasswordHasher;
 import proved.argon2.Settings;
@@ -120,12 +121,13 @@ final class Service {
         });
         HttpServer server = HttpServer.create(new InetSocketAddress(InetAddress.getLoopbackAddress(), 0), 0);
         server.createContext("/", Service::answer);
-        server.setExecutor(Executors.newCachedThreadPool());
+        ThreadPoolExecutor served = (ThreadPoolExecutor) Executors.newCachedThreadPool();
+        server.setExecutor(served);
         server.start();
         int port = server.getAddress().getPort();
         runAll(CLIENTS, client -> logInOften(port));
         require(SEEN.keySet().equals(java.util.Set.of(0, 200, 401, 503)), SEEN);
-        while (send(port, "known", "password", false) == 503) {
+        while (send(port, "known", "password", false) == 503 || served.getActiveCount() > 0) {
             Thread.sleep(10); // those who left are still computed
         }
         leave();
