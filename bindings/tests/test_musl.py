@@ -133,5 +133,5 @@ def test_crate_finds_its_archive(tmp_path):
         shutil.copy(ARCHIVE, tmp_path / 'lib' / machine)
         named = {**of, 'CARGO_CFG_TARGET_ARCH': machine, 'CARGO_CFG_TARGET_ENV': libc}
         assert f'link-search=native={tmp_path}/lib/{machine}\n' in run(build, env=named)
-    refuses(1, 'the crate has no archive for riscv64gc-unknown-linux-musl', build,
+    refuses(1, 'there is no libproved_argon2.a for riscv64gc-unknown-linux-musl', build,
             env={**of, 'CARGO_CFG_TARGET_ARCH': 'riscv64', 'TARGET': 'riscv64gc-unknown-linux-musl'})
