@@ -119,7 +119,7 @@ static void check_tags(void)
     none.lanes = 0;
     check_code(proved_argon2_job_check(&job), PROVED_ARGON2_OK, "it is a job");
     check_code(proved_argon2_job_check(&none), PROVED_ARGON2_NO_JOB, "a job without lanes is invalid");
-    for (int order = 0; order < ORDERS; order++) {
+    for (enum order order = RISING; order < ORDERS; order++) {
         check(take_steps(&job, order), "its steps");
         check_code(proved_argon2_job_finish(&job, last, 8, tag, 32), PROVED_ARGON2_OK, "its end");
         check(is_hex(tag, 32, tag_of_rfc), "its tag");
