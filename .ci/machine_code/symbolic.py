@@ -18,7 +18,9 @@ RED_ZONE, MOST_JOINED, LARGEST_FRAME = 128, 16, 1 << 20  # (in bytes)
 STEPS = 20_000  # more instructions than any path has
 STACK, RETURN, RETURN_ADDRESS, ALWAYS = 'stack', z3.BitVec('return', BITS), -1, z3.BoolVal(True)
 POINTED = {**SIZES, 'int': 4}
-LARGEST, MOST_SEEN = 1 << 14, 128  # of known sizes: bytes that are written one by one, and that are looked at
+# A call that writes a known number of bytes, at most LARGEST, writes each of them. What a call is passed is noted if it
+# has at most MOST_SEEN bytes.
+LARGEST, MOST_SEEN = 1 << 14, 128
 # A jump, and whether it always jumps.
 JUMP = re.compile(r'(?:(jmp|b)|j\w+|b\.\w+|[ct]bn?z)\s.*?(0x[0-9a-f]+)')
 

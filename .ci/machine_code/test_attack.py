@@ -27,7 +27,7 @@ RELEASE, SEED = TOP / 'release', os.environ.get('SEED') or random.randrange(1 <<
 FILES = 'x86_64/libproved_argon2.a', 'aarch64/libproved_argon2.a', 'wasm32/proved_argon2.wasm'
 # This module has the same instructions, except for the numbers of the functions that are called.
 SAME = 'wasm32/proved_argon2_shared.wasm'
-# What only calls the compression elsewhere is attacked where it is one.
+# The function that prefetches ahead has code of its own in the first file; in the others it calls the compression.
 ATTACKED = [(name, function) for name in FILES for function in FUNCTIONS if function.name != AHEAD or name == FILES[0]]
 DRAWN, UNTIL_FORGOTTEN, SHARED = 300, 100, 'x86_64/libproved_argon2.so.1.0.0'
 # A load, a store, a call and a prefetch of other memory, each as long as the first prefetch.

@@ -93,7 +93,7 @@ fn require_released(root: &Path, part: &str) -> Result<(), String> {
     check.map(|_| ()).map_err(|reason| format!("{reason}: {ADVICE}"))
 }
 
-/// The folder with the library as C, or the reason why there is none.
+/// Returns the folder that has the library as C, or says why there is none.
 fn sources_in_c(to: &Path) -> Result<PathBuf, String> {
     let packed = here().join("c");
     if packed.is_dir() {
@@ -111,7 +111,7 @@ fn sources_in_c(to: &Path) -> Result<PathBuf, String> {
     Ok(Path::new(from.trim_end_matches('\n')).join("portable"))
 }
 
-/// Compiles the library as C, and returns the folder of the archive.
+/// Compiles the library as C into an archive, and returns its folder.
 fn compiled_folder() -> Result<PathBuf, String> {
     if target("ENV") == "msvc" {
         return Err(format!("there is no {ARCHIVE} for {}, and MSVC cannot compile the library as C", named("TARGET")));
