@@ -1,4 +1,4 @@
-/* Tells the processor that a block will be read soon, by the address of its first word.
+/* Tells the processor that a block will be read or overwritten soon, by the address of its first word.
  *
  * build/add_kernel puts the machine code of this file in the place of the proved `proved_argon2_expect`, which reads
  * that word. This code is not proved. Instead, its machine code is checked to be prefetches and a return

@@ -1,8 +1,8 @@
 /* The compression function G for processors with AVX-512: two blocks in, one block out (RFC 9106, 3.5 and 3.6).
  *
  * build/add_kernel puts the machine code of this file in the place of the proved functions for x86-64-v3: `fill_words`,
- * and `proved_argon2_fill_ahead`, which also prefetches the reference of the block after next. This code is not proved.
- * Instead, its machine code is checked for all inputs (docs/CLAIMS.md).
+ * and `proved_argon2_fill_ahead`, which also prefetches next, and the reference of the block after it. This code is not
+ * proved. Instead, its machine code is checked for all inputs (docs/CLAIMS.md).
  *
  * The layout: a block is a square of 8 rows by 8 columns. Each place holds two words, so a row is 16 consecutive words.
  * G first permutes each row and then each column with P, which treats its 16 words as a 4 by 4 matrix: a has words 0 to
@@ -28,9 +28,7 @@
 
 typedef __m512i vector;
 
-enum { GROUPS = 4, WORDS = 8, TWO_ROWS = GROUPS * WORDS, BLOCK = 128 * sizeof(uint64_t), LINE = 64, QUARTERS = 4 };
-/* So many groups of columns are so many quarters of G ahead of the others, where word 0 is wanted early. */
-enum { LEADING = 2, LEAD = 2 };
+enum { GROUPS = 4, WORDS = 8, TWO_ROWS = GROUPS * WORDS, BLOCK = 128 * sizeof(uint64_t), LINE = 64 };
 
 #define INLINED static inline __attribute__((always_inline))
 #define SUM(x, y) _mm512_xor_si512(x, y)
@@ -58,48 +56,15 @@ INLINED vector places(uint64_t bytes)
     return _mm512_cvtepu8_epi64(_mm_cvtsi64_si128((long long)bytes));
 }
 
-/* A quarter of G in the groups `from` to `to` - 1: multiplies and adds to x, and rotates the sum of that and z. */
-INLINED void quarter(vector *x, const vector *y, vector *z, const int count, const int from, const int to)
+/* A quarter of G: multiplies and adds to x, and rotates the sum of that and z. */
+INLINED void quarter(vector *x, const vector *y, vector *z, const int count)
 {
-    for (int i = from; i < to; i++) {
+    for (int i = 0; i < GROUPS; i++) {
         const vector product = _mm512_mul_epu32(x[i], y[i]);
         x[i] = _mm512_add_epi64(_mm512_add_epi64(x[i], y[i]), _mm512_add_epi64(product, product));
     }
-    for (int i = from; i < to; i++) {
+    for (int i = 0; i < GROUPS; i++) {
         z[i] = _mm512_ror_epi64(SUM(z[i], x[i]), count);
-    }
-}
-
-/* The quarter of G with number `at`. */
-INLINED void mix_in_part(vector *a, vector *b, vector *c, vector *d, const int at, const int from, const int to)
-{
-    switch (at % QUARTERS) {
-    case 0: quarter(a, b, d, 32, from, to); break;
-    case 1: quarter(c, d, b, 24, from, to); break;
-    case 2: quarter(a, b, d, 16, from, to); break;
-    default: quarter(c, d, b, 63, from, to);
-    }
-}
-
-INLINED void mix(vector *a, vector *b, vector *c, vector *d)
-{
-    _Pragma("GCC unroll 4") for (int at = 0; at < QUARTERS; at++)
-    {
-        mix_in_part(a, b, c, d, at, 0, GROUPS);
-    }
-}
-
-/* Applies P to all rows. P turns b by one place, c by two and d by three, to make columns of the diagonals. Here all
- * four are turned by three places more, so b stays in place: a mix computes b last, so turning b would have to wait. */
-INLINED void permute_rows(vector *a, vector *b, vector *c, vector *d)
-{
-    mix(a, b, c, d);
-    for (int i = 0; i < GROUPS; i++) {
-        a[i] = ROWS_BY_3(a[i]), c[i] = ROWS_BY_1(c[i]), d[i] = ROWS_BY_2(d[i]);
-    }
-    mix(a, b, c, d);
-    for (int i = 0; i < GROUPS; i++) {
-        a[i] = ROWS_BY_1(a[i]), c[i] = ROWS_BY_3(c[i]), d[i] = ROWS_BY_2(d[i]);
     }
 }
 
@@ -111,47 +76,60 @@ typedef struct ahead {
     uint64_t size, columns, added;
 } ahead;
 
-/* Prefetches that reference (RFC 9106, 3.4.2), given word 0 of the permuted columns. */
-INLINED void prefetch_reference(const ahead *at, uint64_t word)
+INLINED void prefetch(const void *block)
 {
-    const uint64_t low = (uint32_t)(word ^ at->added), back = at->size * (low * low >> 32) >> 32;
-    const uint64_t turn = back < (uint32_t)at->columns ? 0 : at->columns >> 32;
-    const char *const line = (const char *)((uintptr_t)at->next + BLOCK * (turn - back - 1));
     _Pragma("GCC unroll 16") for (int i = 0; i < BLOCK / LINE; i++)
     {
-        _mm_prefetch(line + LINE * i, _MM_HINT_T0);
+        _mm_prefetch((const char *)block + LINE * i, _MM_HINT_T0);
     }
     /* Without this, gcc would prefetch last, since nothing waits for it. */
     __asm__ volatile("");
 }
 
-/* An eighth of P, of the columns in some groups, in the same way as of rows. */
-INLINED void permute_in_part(vector *a, vector *b, vector *c, vector *d, const int at, const int from, const int to)
+/* Prefetches that reference (RFC 9106, 3.4.2), given word 0 of the permuted columns. */
+INLINED void prefetch_reference(const ahead *at, uint64_t word)
 {
-    if (at < 0 || at >= 2 * QUARTERS) {
-        return;
+    const uint64_t low = (uint32_t)(word ^ at->added), back = at->size * (low * low >> 32) >> 32;
+    const uint64_t turn = back < (uint32_t)at->columns ? 0 : at->columns >> 32;
+    prefetch((const void *)((uintptr_t)at->next + BLOCK * (turn - back - 1)));
+}
+
+/* G. With `at`, passes on the first word of a, which is then the second one of its vector, as soon as it is known. */
+INLINED void mix(vector *a, vector *b, vector *c, vector *d, const ahead *at)
+{
+    quarter(a, b, d, 32);
+    quarter(c, d, b, 24);
+    quarter(a, b, d, 16);
+    if (at) {
+        prefetch_reference(at, (uint64_t)_mm_extract_epi64(_mm512_castsi512_si128(a[0]), 1));
     }
-    mix_in_part(a, b, c, d, at, from, to);
-    for (int i = from; i < to && at == QUARTERS - 1; i++) {
-        a[i] = COLUMNS_BY_3(a[i]), c[i] = COLUMNS_BY_1(c[i]), d[i] = COLUMNS_BY_2(d[i]);
+    quarter(c, d, b, 63);
+}
+
+/* Applies P to all rows. P turns b by one place, c by two and d by three, to make columns of the diagonals. Here all
+ * four are turned by three places more, so b stays in place: a mix computes b last, so turning b would have to wait. */
+INLINED void permute_rows(vector *a, vector *b, vector *c, vector *d)
+{
+    mix(a, b, c, d, NULL);
+    for (int i = 0; i < GROUPS; i++) {
+        a[i] = ROWS_BY_3(a[i]), c[i] = ROWS_BY_1(c[i]), d[i] = ROWS_BY_2(d[i]);
     }
-    for (int i = from; i < to && at == 2 * QUARTERS - 1; i++) {
-        a[i] = COLUMNS_BY_1(a[i]), c[i] = COLUMNS_BY_3(c[i]), d[i] = COLUMNS_BY_2(d[i]);
+    mix(a, b, c, d, NULL);
+    for (int i = 0; i < GROUPS; i++) {
+        a[i] = ROWS_BY_1(a[i]), c[i] = ROWS_BY_3(c[i]), d[i] = ROWS_BY_2(d[i]);
     }
 }
 
-/* Applies P to all columns. With `at`, the first groups lead, so that word 0 is known and passed on earlier. It is then
- * the second one of its vector, which is turned back afterwards. */
+/* Applies P to all columns, in the same way. With `at`, passes on word 0. */
 INLINED void permute_columns(vector *a, vector *b, vector *c, vector *d, const ahead *at)
 {
-    const int leading = at ? LEADING : GROUPS, lead = at ? LEAD : 0;
-    _Pragma("GCC unroll 16") for (int step = 0; step < 2 * QUARTERS + lead; step++)
-    {
-        permute_in_part(a, b, c, d, step, 0, leading);
-        if (at && step == 2 * QUARTERS - 2) {
-            prefetch_reference(at, (uint64_t)_mm_extract_epi64(_mm512_castsi512_si128(a[0]), 1));
-        }
-        permute_in_part(a, b, c, d, step - lead, leading, GROUPS);
+    mix(a, b, c, d, NULL);
+    for (int i = 0; i < GROUPS; i++) {
+        a[i] = COLUMNS_BY_3(a[i]), c[i] = COLUMNS_BY_1(c[i]), d[i] = COLUMNS_BY_2(d[i]);
+    }
+    mix(a, b, c, d, at);
+    for (int i = 0; i < GROUPS; i++) {
+        a[i] = COLUMNS_BY_1(a[i]), c[i] = COLUMNS_BY_3(c[i]), d[i] = COLUMNS_BY_2(d[i]);
     }
 }
 
@@ -213,5 +191,6 @@ CLEARING void proved_argon2_fill_ahead(
     const uint64_t *prev, const uint64_t *reference, uint64_t *next, uint64_t size, uint64_t columns, uint32_t with_old)
 {
     const ahead at = {next, size, columns, prev[0] ^ reference[0] ^ (with_old ? next[0] : 0)};
+    prefetch(next);
     fill(prev, reference, next, with_old, &at);
 }

@@ -63,7 +63,7 @@ fn hash_context(
     if out.len() != context.config.hash_length as usize {
         return Err(CallError::WrongLength);
     }
-    hash_over(&Prefetches, context, blocks, out);
+    hash_over(&Prefetches::over(blocks.len()), context, blocks, out);
     Ok(())
 }
 
@@ -132,7 +132,7 @@ pub fn hash_job(numbers: &CallerJob, blocks: &mut [Block], out: &mut [u8]) -> Re
     if out.len() != numbers.hash_length as usize {
         return Err(CallError::WrongLength);
     }
-    hash_job_over(&Prefetches, &job, blocks, out);
+    hash_job_over(&Prefetches::over(blocks.len()), &job, blocks, out);
     Ok(())
 }
 
@@ -159,7 +159,7 @@ pub fn verify_job(
     if hash.len() != length || tag.len() != length {
         return Err(CallError::WrongLength);
     }
-    hash_job_over(&Prefetches, &job, blocks, tag);
+    hash_job_over(&Prefetches::over(blocks.len()), &job, blocks, tag);
     Ok(are_equal(hash, tag))
 }
 

@@ -1,6 +1,6 @@
-//! Which block will be read soon, for the processor.
+//! Which block will be read or overwritten soon, for the processor.
 
-ghost use Rattle.std.specs.Prelude.{◌≡◌, ◌==◌, if◌then◌else◌};
+ghost use Rattle.std.specs.Prelude.{◌≡◌, ◌==◌, nat_lt, if◌then◌else◌};
 ghost use Rattle.argon2_blocks.specs.Standard.Block.{xor};
 ghost use Rattle.argon2_blocks.specs.Standard.Compression.{compress_g};
 
@@ -8,14 +8,35 @@ use argon2::parts::block::Block;
 use argon2_blocks::block::fill_block;
 use argon2_memory::segment::{Ahead, Expects};
 
+/// Up to so many blocks lie in the processor's caches: 1 MiB.
+const CACHED_BLOCKS: usize = 1024;
+
 /// Calls `proved_argon2_expect` for each block, and `proved_argon2_fill_ahead` if the next block's
-/// reference can be found ahead.
+/// reference can be found ahead; neither if the blocks lie in the processor's caches anyway.
 #[derive(Clone, Copy, Debug)]
-pub struct Prefetches;
+pub struct Prefetches {
+    is_far: bool,
+}
+
+impl Prefetches {
+    /// For blocks that do not lie in the processor's caches.
+    pub const FAR: Prefetches = Prefetches { is_far: true };
+
+    /// For a memory of so many blocks.
+    pub fn over(blocks: usize) -> Prefetches
+        ensures { result.is_far ≡ nat_lt 1024 blocks }
+    {
+        Prefetches {
+            is_far: blocks > CACHED_BLOCKS,
+        }
+    }
+}
 
 impl Expects for Prefetches {
     fn expect(&self, block: &Block) {
-        proved_argon2_expect(&block[0]);
+        if self.is_far {
+            proved_argon2_expect(&block[0]);
+        }
     }
 
     fn fill(
@@ -27,7 +48,7 @@ impl Expects for Prefetches {
         ahead: Option<Ahead>,
     ) {
         match ahead {
-            Some(ahead) => {
+            Some(ahead) if self.is_far => {
                 let columns = ahead.column as u64 + ((ahead.lane_length as u64) << 32);
                 let size = ahead.size as u64;
                 if with_xor {
@@ -36,12 +57,12 @@ impl Expects for Prefetches {
                     proved_argon2_fill_ahead(prev, reference, next, size, columns, 0);
                 }
             }
-            None => fill_block(prev, reference, next, with_xor),
+            _ => fill_block(prev, reference, next, with_xor),
         }
     }
 }
 
-/// Reads the first word of a block that will be read soon. It promises nothing about what it
+/// Reads the first word of a block that will be read or overwritten soon. It promises nothing about what it
 /// returns, so no result depends on it. `build/add_kernel` replaces its machine code by prefetches.
 #[unsafe(no_mangle)]
 #[inline(never)]
@@ -68,6 +89,7 @@ pub extern "C" fn proved_argon2_fill_ahead(
     ensures { let g = compress_g prev.now reference.now in
         next.new ≡ (if with_xor == 0 then g else xor g next.old) }
 {
+    proved_argon2_expect(&next[0]);
     fill_block(prev, reference, next, with_xor != 0);
     // A compiler would drop numbers that nothing uses.
     size ^ columns

@@ -90,15 +90,16 @@ fn fill_lanes(
 {
     facts_of_job(job);
     let length = job.segment_length() as usize;
+    let expects = Prefetches::FAR;
     if lane + 1 < job.lanes() && own.len() == 2 * length {
         let (own, other) = first_and_others(own, length);
-        fill_caller_pair(&Prefetches, job, lane, first, second, third, own, other);
+        fill_caller_pair(&expects, job, lane, first, second, third, own, other);
         return Ok(());
     }
     if own.len() != length {
         return Err(CallError::WrongBlocks);
     }
-    fill_caller_segment(&Prefetches, job, lane, first, second, third, own);
+    fill_caller_segment(&expects, job, lane, first, second, third, own);
     Ok(())
 }
 

@@ -1,5 +1,5 @@
-//! Who is told which block will be read next, so that its memory can be fetched while another
-//! block is written. Nothing is promised about it, so no result depends on it.
+//! Who is told which block will be read or overwritten next, so that its memory can be fetched while
+//! another block is written. Nothing is promised about it, so no result depends on it.
 
 ghost use Rattle.std.specs.Prelude.{◌≡◌, if◌then◌else◌};
 ghost use Rattle.argon2_blocks.specs.Standard.Block.{xor};
@@ -21,13 +21,14 @@ pub struct Ahead {
     pub lane_length: u32,
 }
 
-/// One that is told of blocks before they are read.
+/// One that is told of blocks before they are read or overwritten.
 pub trait Expects {
-    /// Takes note of a block that will be read soon.
+    /// Takes note of a block that will be read or overwritten soon.
     fn expect(&self, block: &Block);
 
-    /// Sets `next` as `fill_block` does. If it is passed `ahead`, it may find the reference of the
-    /// block after `next` as soon as it knows the first word of `next`.
+    /// Sets `next` as `fill_block` does. If it is passed `ahead`, it was not told of `next`, and it
+    /// may find the reference of the block after `next` as soon as it knows the first word of
+    /// `next`.
     fn fill(
         &self,
         prev: &Block,

@@ -23,7 +23,7 @@ use argon2_blocks::common::QWORDS_IN_BLOCK;
 /// Writes the block at an index, from the one before it and the one that it refers to. Only if
 /// references depend on blocks may it find the next reference in between.
 #[inline(always)]
-fn write_block<E: Expects, S: OtherBlocks, O: OwnBlocks>(
+pub(super) fn write_block<E: Expects, S: OtherBlocks, O: OwnBlocks>(
     expects: &E,
     beside: &Beside<S>,
     lane: u32,
@@ -85,7 +85,7 @@ pub(super) fn dependent_word<S: OtherBlocks, O: OwnBlocks>(
 
 /// Fills `count` blocks from an index on, one after another, whose references depend on blocks.
 #[inline(never)]
-pub(super) fn fill_dependent<E: Expects, S: OtherBlocks, O: OwnBlocks>(
+fn fill_dependent<E: Expects, S: OtherBlocks, O: OwnBlocks>(
     expects: &E,
     beside: &Beside<S>,
     lane: u32,
@@ -114,6 +114,9 @@ pub(super) fn fill_dependent<E: Expects, S: OtherBlocks, O: OwnBlocks>(
         let word = dependent_word(beside, lane, index, own);
         let reference = pick(&job, lane, index, word);
         let ahead = ahead_of(&job, index);
+        if ahead.is_none() {
+            expects.expect(own.block(index as usize));
+        }
         write_block(expects, beside, lane, index, reference, ahead, own);
     }
 }

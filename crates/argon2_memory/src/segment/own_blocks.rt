@@ -7,7 +7,7 @@ ghost use Rattle.argon2_blocks.specs.Standard.Block.{zero_block};
 ghost use Rattle.argon2_memory.specs.Views.Segments.{wiped_segment, zero_segment, with_block, IsMadeInPart, with_zeros, IsBefore, source_block};
 ghost use Rattle.argon2_standard.specs.Standard.Recurrence.{made_block};
 
-use super::expecting::{Ahead, Expects};
+use super::expecting::{Ahead, Expects, ExpectsNothing};
 use argon2_blocks::block::{Block, first_and_others};
 use std::alloc::{AllocError, Global};
 use std::marker::Model;
@@ -174,7 +174,21 @@ impl Segment {
     /// Writes the compression of two sources at the index. With `with_xor`, the result is combined
     /// with the old block (RFC 9106, 3.2). It writes in place, and counts the write. A source of
     /// the same segment comes before the index.
-    pub fn write<E: Expects>(
+    pub fn write(&mut self, index: usize, prev: Source<'_>, reference: Source<'_>, with_xor: bool)
+        requires index_fits { index < length self.old.blocks }
+        requires prev_before { IsBefore index prev }
+        requires reference_before { IsBefore index reference }
+        ensures { let old = self.old.blocks in
+            self.new ≡ with_block self.old index (made_block
+            (source_block old prev.entry) (source_block old reference.entry)
+            (slice_index_or old index []) with_xor) }
+    {
+        self.write_expecting(&ExpectsNothing, index, prev, reference, with_xor, None);
+    }
+
+    /// Writes a block as `write` does. It passes on who is told of the next reference, and what
+    /// that depends on.
+    fn write_expecting<E: Expects>(
         &mut self,
         expects: &E,
         index: usize,
@@ -266,7 +280,7 @@ impl OwnBlocks for Segment {
         with_xor: bool,
         ahead: Option<Ahead>,
     ) {
-        Segment::write(self, expects, index, prev, reference, with_xor, ahead);
+        self.write_expecting(expects, index, prev, reference, with_xor, ahead);
     }
 }
 

@@ -2,46 +2,54 @@
 //! its memory can be fetched, while a block of the other lane is written.
 
 ghost use Rattle.std.specs.Prelude.{◌≡◌, ◌+◌, ◌*◌, ◌<◌, ◌≤◌, [], ◌∷◌, length, false};
-ghost use Rattle.argon2_memory.specs.Views.Filling.{FillsOn, IsSnapshot};
+ghost use Rattle.argon2_memory.specs.Views.Filling.{FillsOn, IsFilledTo, IsSnapshot};
 ghost use Rattle.argon2_memory.specs.Views.Jobs.{first_index};
 ghost use Rattle.argon2_memory.specs.Views.Places.{FillsAmong};
+ghost use Rattle.argon2_memory.specs.Views.References.{IsPicked, reference_of};
 ghost use Rattle.argon2_memory.specs.Views.Segments.{IsReady, segment_at};
 ghost use Rattle.argon2_standard.specs.Standard.Reference.{is_data_independent};
 
 use super::expecting::Expects;
-use super::filling::{dependent_word, expect_reference, fill_dependent, fill_independent};
+use super::filling::{dependent_word, expect_reference, fill_independent, write_block};
 use super::other_blocks::{Beside, OtherBlocks, beside_blocks};
 use super::own_blocks::{CallerSegment, OwnBlocks};
 use super::positions::pick;
 use crate::job::{Job, facts_of_job, stretch};
 use argon2_blocks::block::Block;
 
-/// Tells which block the one at an index refers to, in a segment whose references depend on the
-/// blocks.
-#[inline(never)]
-fn expect_dependent<E: Expects, S: OtherBlocks, O: OwnBlocks>(
+/// The reference of the block at an index, in a segment whose references depend on the blocks. It
+/// tells which block that is, and which one will be written.
+fn expected_reference<E: Expects, S: OtherBlocks, O: OwnBlocks>(
     expects: &E,
     beside: &Beside<S>,
     lane: u32,
     index: u32,
     own: &O,
-)
+) -> (u32, u32)
     requires dependent { is_data_independent beside.now.job.setting.variant beside.now.job.pass
         beside.now.job.slice ≡ false }
     requires lane_fits { lane < beside.now.job.setting.lanes }
     requires index_fits { index < beside.now.job.setting.segment_length }
     requires later { first_index beside.now.job ≤ index }
     requires long { length (O.seen own.now).blocks ≡ beside.now.job.setting.segment_length }
+    ensures picked { IsPicked beside.now.job lane index result }
+    ensures chosen { IsSnapshot beside.now
+        → IsFilledTo beside.now.job lane index (O.seen own.now).blocks
+        → result ≡ reference_of beside.now.job lane index }
 {
-    let job = *beside.job();
+    // The block to be written comes first: its lines often lie in a cache already, so that they
+    // need not wait until those of the reference have arrived.
+    expects.expect(own.block(index as usize));
     let word = dependent_word(beside, lane, index, own);
-    let reference = pick(&job, lane, index, word);
+    let reference = pick(beside.job(), lane, index, word);
     expect_reference(expects, beside, lane, index, reference, own);
+    reference
 }
 
 /// Fills `count` blocks of a lane and of the next one from an index on, by turns, whose references
 /// depend on blocks. So the reference of a lane's next block is known while a block of the other
 /// lane is written.
+#[inline(never)]
 fn fill_dependent_pair<E: Expects, S: OtherBlocks, O: OwnBlocks>(
     expects: &E,
     beside: &Beside<S>,
@@ -55,6 +63,7 @@ fn fill_dependent_pair<E: Expects, S: OtherBlocks, O: OwnBlocks>(
         beside.now.job.slice ≡ false }
     requires lanes_fit { lane + 1 < beside.now.job.setting.lanes }
     requires later { first_index beside.now.job ≤ first }
+    requires some { 0 < count }
     requires indexes_fit { first + count ≤ beside.now.job.setting.segment_length }
     requires long { length (O.seen own.old).blocks ≡ beside.now.job.setting.segment_length }
     requires other_long { length (O.seen other.old).blocks ≡ beside.now.job.setting.segment_length }
@@ -68,17 +77,35 @@ fn fill_dependent_pair<E: Expects, S: OtherBlocks, O: OwnBlocks>(
     ensures other_same { O.loan other.new ≡ O.loan other.old }
 {
     facts_of_job(beside.job());
-    for k in 0..count {
-        let index = first + k;
-        fill_dependent(expects, beside, lane, index, 1, own);
-        if k + 1 < count {
-            expect_dependent(expects, beside, lane, index + 1, own);
-        }
-        fill_dependent(expects, beside, lane + 1, index, 1, other);
-        if k + 1 < count {
-            expect_dependent(expects, beside, lane + 1, index + 1, other);
-        }
+    let last = first + (count - 1);
+    let mut index = first;
+    let mut reference = expected_reference(expects, beside, lane, index, own);
+    let mut other_reference = expected_reference(expects, beside, lane + 1, index, other);
+    while index < last {
+        write_block(expects, beside, lane, index, reference, None, own);
+        reference = expected_reference(expects, beside, lane, index + 1, own);
+        write_block(
+            expects,
+            beside,
+            lane + 1,
+            index,
+            other_reference,
+            None,
+            other,
+        );
+        other_reference = expected_reference(expects, beside, lane + 1, index + 1, other);
+        index += 1;
     }
+    write_block(expects, beside, lane, index, reference, None, own);
+    write_block(
+        expects,
+        beside,
+        lane + 1,
+        index,
+        other_reference,
+        None,
+        other,
+    );
 }
 
 /// Fills at most 128 blocks of a lane and of the next one, from an index on.
@@ -93,6 +120,7 @@ fn fill_blocks_pair<E: Expects, S: OtherBlocks, O: OwnBlocks>(
 )
     requires lanes_fit { lane + 1 < beside.now.job.setting.lanes }
     requires later { first_index beside.now.job ≤ first }
+    requires some { 0 < count }
     requires few { count ≤ 128 }
     requires indexes_fit { first + count ≤ beside.now.job.setting.segment_length }
     requires long { length (O.seen own.old).blocks ≡ beside.now.job.setting.segment_length }

@@ -5,7 +5,7 @@ use Rattle.argon2_memory.specs.Standard.Kept.{SegmentValue}
 use Rattle.argon2_memory.specs.Views.Segments.{source_block}
 use Rattle.argon2_standard.specs.Standard.Recurrence.{made_block}
 use Rattle.argon2_memory.proofs.Filled.{made_in_front}
-use Rattle.argon2_memory.proofs.segment.own_blocks.Segment.write.Goals as goal
+use Rattle.argon2_memory.proofs.segment.own_blocks.Segment.write_expecting.Goals as goal
 
 pub returns : goal.returns
 returns g c =
