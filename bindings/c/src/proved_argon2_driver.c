@@ -11,6 +11,9 @@
 #define MOST_OPTIONS 4096                /* bytes: no version has larger options */
 #define SLICES 4                         /* of the blocks, by RFC 9106, section 3.4 */
 #define STACK_BELOW 16384                /* bytes: a call uses two thirds of them */
+#define LINE 64                          /* bytes, of a cache */
+#define FAR ((size_t)8 << 20)            /* bytes: so many seldom lie in a cache */
+#define AHEAD 2048                       /* bytes */
 
 /* Whether memory is mapped. Mapping less than a huge page takes longer than hashing in it. */
 static bool is_mapped(uint64_t bytes)
@@ -279,6 +282,25 @@ static __attribute__((noinline)) uint32_t fill(struct call *call)
     return code;
 }
 
+/* Asks for the lines of a block. Its address may lie behind all memory. */
+static void prefetch(uintptr_t address)
+{
+    for (size_t at = 0; at < sizeof(block); at += LINE) {
+        __builtin_prefetch((const void *)(address + at), 1);
+    }
+}
+
+/* Overwrites blocks. Many blocks seldom lie in a cache. Then each is asked for before it is overwritten: to overwrite
+ * all of them at once takes 1.6 times as long, since the processor waits for their lines. */
+static void overwrite_blocks(block *blocks, size_t len)
+{
+    const size_t part = len < FAR ? len : sizeof *blocks;
+    for (size_t at = 0; at < len; at += part) {
+        prefetch((uintptr_t)blocks + at + AHEAD);
+        proved_driver_overwrite((char *)blocks + at, part);
+    }
+}
+
 /* Computes in one call if the caller's thread is alone and nothing reports progress; otherwise in steps. */
 static uint32_t compute_over(struct call *call, const uint8_t *hash, uint8_t *tag)
 {
@@ -329,7 +351,7 @@ uint32_t proved_driver_compute(struct call *call, const uint8_t *hash, uint8_t *
     uint32_t code = memory_error(call, bytes);
     if (code == PROVED_ARGON2_OK) {
         code = compute_over(call, hash, tag);
-        proved_driver_overwrite(call->blocks, own == NULL ? (size_t)bytes : 0);
+        overwrite_blocks(call->blocks, own == NULL ? (size_t)bytes : 0);
     }
     proved_argon2_memory_free(own, (size_t)bytes);
     return code;

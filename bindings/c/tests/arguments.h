@@ -4,8 +4,6 @@
 
 #include "checks.h"
 
-#include <dlfcn.h>
-
 enum { TAG = 32, TEXT = 128, LANES = 3, LENGTH = 2, SLICE = LANES * LENGTH, PASSES = 2 };
 
 static const proved_argon2_settings small = {PROVED_ARGON2_ID, PROVED_ARGON2_VERSION_13, 4 * SLICE, PASSES, LANES, TAG};
@@ -60,14 +58,11 @@ static struct written {
 #define INPUTS BYTES(PWD), BYTES(SALT), BYTES(SECRET), BYTES(AD), arguments[SETTINGS].at
 #define STORED_TEXT BYTES(TEXT_READ), BYTES(PWD), BYTES(SECRET), BYTES(AD)
 #define SLICES BYTES(FIRST), BYTES(SECOND), BYTES(THIRD)
-/* A call by its name alone, as other languages find it. */
 #define CALL(name, ...) CALL_AS(name, name, __VA_ARGS__)
 #define CALL_AS(own_name, name, ...) \
     static inline uint32_t own_name(void) \
     { \
-        __typeof__(proved_argon2_##name) *call; \
-        *(void **)&call = dlsym(RTLD_DEFAULT, "proved_argon2_" #name); \
-        return call(__VA_ARGS__); \
+        return proved_argon2_##name(__VA_ARGS__); \
     }
 
 CALL(hash_raw, INPUTS, BYTES(OUT))

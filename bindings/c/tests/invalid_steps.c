@@ -1,8 +1,7 @@
 /*
- * Wrong arguments of a job's steps: each number, length and address, also with others that are wrong. Each returns its
- * error, in the order of the header, and nothing is written.
- *
- *     invalid_steps few    only every 17th combination of the arguments of job_fill, since all take too long
+ * Wrong arguments of a job's steps: each number, length and address alone, and a few with others that are wrong. Each
+ * returns its error, in the order of the header, and nothing is written. The theorems about these calls cover all
+ * combinations; here we see that the way to them mixes up no arguments.
  */
 #include "arguments.h"
 
@@ -23,21 +22,6 @@ static bool answers(uint32_t (*step)(void), uint32_t expected, size_t from, size
 
 #define ITS(field, len) offsetof(struct written, field), len
 
-/* Takes the next of the values that a number encodes. */
-static size_t next_of(const size_t *values, size_t count, size_t *number)
-{
-    const size_t at = *number % count;
-    *number /= count;
-    return values[at];
-}
-
-#define NEXT(values, number) next_of(values, sizeof values / sizeof *values, number)
-
-static const size_t of_slice[] = {SLICE, 0, 1, SLICE - 1, SLICE + 1},
-                    of_segment[] = {LENGTH, 0, 1, LENGTH + 1, 2 * LENGTH, 3 * LENGTH},
-                    of_memory[] = {4 * SLICE, 0, 1, 4 * SLICE - 1, 4 * SLICE + 1},
-                    of_tag[] = {TAG, 0, 1, TAG - 1, TAG + 1}, lanes[] = {0, LANES - 1, LANES, LANES + 1, UINT32_MAX};
-
 /* The order of the header. An invalid job comes first. */
 static uint32_t expected_of(bool has_place, bool has_blocks, bool has_length)
 {
@@ -47,92 +31,118 @@ static uint32_t expected_of(bool has_place, bool has_blocks, bool has_length)
                       : PROVED_ARGON2_OK;
 }
 
-static void check_begin(void)
+static void give_place(uint32_t place)
 {
-    bool good = true;
-    for (size_t n = 0; n < 5 * 6; n++) {
-        size_t number = n;
-        give_what_fits();
-        lane = (uint32_t)NEXT(lanes, &number);
-        arguments[OWN].len = NEXT(of_segment, &number);
-        good &= answers(
-            job_begin, expected_of(lane < LANES, arguments[OWN].len == LENGTH, true), ITS(own, LENGTH * 1024));
-    }
-    check(good, "job_begin at lanes and with lengths");
+    pass = slice = lane = place;
 }
 
-static void check_fill(size_t step)
+/* Numbers at which there is no pass, slice or lane, alone and with wrong lengths. */
+static void check_places(void)
 {
-    static const size_t passes[] = {0, PASSES - 1, PASSES, UINT32_MAX}, slices[] = {0, 1, 2, 3, 4, 5, UINT32_MAX};
-    bool good = true;
-    for (size_t n = 0; n < 4 * 7 * 5 * 5 * 5 * 5 * 6; n += step) {
-        size_t number = n;
-        give_what_fits();
-        pass = (uint32_t)NEXT(passes, &number);
-        slice = (uint32_t)NEXT(slices, &number);
-        lane = (uint32_t)NEXT(lanes, &number);
-        arguments[FIRST].len = NEXT(of_slice, &number);
-        arguments[SECOND].len = NEXT(of_slice, &number);
-        arguments[THIRD].len = NEXT(of_slice, &number);
-        arguments[OWN].len = NEXT(of_segment, &number);
-        const bool has_blocks = arguments[FIRST].len == SLICE && arguments[SECOND].len == SLICE
-            && arguments[THIRD].len == SLICE;
-        const bool are_two = arguments[OWN].len == 2 * LENGTH && lane < LANES - 1;
-        good &= answers(job_fill,
-            expected_of(pass < PASSES && slice < 4 && lane < LANES,
-                has_blocks && (are_two || arguments[OWN].len == LENGTH), true),
-            ITS(own, arguments[OWN].len * 1024));
+    static const struct {
+        const char *name;
+        uint32_t (*step)(void);
+        uint32_t *number, end;
+    } rows[] = {{"job_begin: lane", job_begin, &lane, LANES}, {"job_fill: lane", job_fill, &lane, LANES},
+        {"job_fill: slice", job_fill, &slice, 4}, {"job_fill: pass", job_fill, &pass, PASSES}};
+    for (size_t i = 0; i < sizeof rows / sizeof *rows; i++) {
+        const uint32_t values[] = {rows[i].end, rows[i].end + 1, UINT32_MAX};
+        bool good = true;
+        for (size_t n = 0; n < 6; n++) {
+            give_what_fits();
+            give_place(0);
+            *rows[i].number = values[n / 2];
+            arguments[OWN].len -= n % 2;
+            good &= answers(rows[i].step, PROVED_ARGON2_NO_PLACE, 0, 0);
+        }
+        check(good, rows[i].name);
     }
-    check(good, "job_fill at passes, slices and lanes, and with lengths");
 }
 
-static void check_ends(void)
+CALL(job_run, arguments[OPTIONS].at, arguments[JOB].at, BYTES(OUT))
+CALL(job_run_verify, arguments[OPTIONS].at, arguments[JOB].at, BYTES(HASH))
+
+/* clang-format off */
+#define ROW(name, ...) {#name, name, {__VA_ARGS__}}
+/* clang-format on */
+
+/* Each step, and its blocks and bytes that have one length that fits. (verify_over takes a hash of any length, and then
+ * computes another tag. Blocks of a run are tested as the driver's memory.) */
+static const struct row {
+    const char *name;
+    uint32_t (*step)(void);
+    enum place places[5]; /* END is behind the last one */
+} rows[] = {ROW(job_begin, OWN), ROW(job_fill, FIRST, SECOND, THIRD, OWN), ROW(job_finish, LAST, OUT),
+    ROW(job_verify, LAST, HASH, TAG_WRITTEN), ROW(job_hash_over, BLOCKS, OUT),
+    ROW(job_verify_over, BLOCKS, HASH, TAG_WRITTEN), ROW(job_run, OUT), ROW(job_run_verify, HASH),
+    ROW(hash_over, BLOCKS, OUT), ROW(verify_over, BLOCKS, TAG_WRITTEN)};
+
+enum { OF_A_JOB = 8 }; /* the first rows */
+
+static bool is_of_blocks(enum place place)
 {
-    bool good = true;
-    for (size_t n = 0; n < 5 * 5 * 5; n++) {
-        size_t number = n;
-        give_what_fits();
-        arguments[LAST].len = NEXT(of_slice, &number);
-        arguments[TAG_WRITTEN].len = arguments[OUT].len = NEXT(of_tag, &number);
-        arguments[HASH].len = NEXT(of_tag, &number);
-        const bool has_blocks = arguments[LAST].len == SLICE, has_length = arguments[OUT].len == TAG;
-        good &= answers(job_finish, expected_of(true, has_blocks, has_length), ITS(out, TAG));
-        good &= answers(
-            job_verify, expected_of(true, has_blocks, has_length && arguments[HASH].len == TAG), ITS(tag, TAG));
-    }
-    check(good, "job_finish and job_verify with lengths");
+    return place != OUT && place != HASH && place != TAG_WRITTEN;
 }
 
-/* The same for a whole hash: it also writes its blocks if it succeeds, otherwise nothing. */
-static bool answers_over(uint32_t (*call)(void), bool has_blocks, bool has_length, size_t from, size_t len)
+/* Wrong lengths, one at a time. In the last lane there is no second one to fill. */
+static bool refuses_lengths(const struct row *row, enum place place)
 {
-    memcpy(&written, &written_before, sizeof written);
-    const uint32_t code = call();
-    if (code == PROVED_ARGON2_OK) {
-        memcpy(&written_before.blocks, &written.blocks, 4 * SLICE * sizeof *blocks);
-        memcpy((uint8_t *)&written_before + from, (const uint8_t *)&written + from, len);
+    give_what_fits();
+    const size_t fits = arguments[place].len, others[] = {0, 1, fits - 1, fits + 1, 3 * fits, SIZE_MAX / 1024};
+    bool good = true;
+    for (size_t i = 0; i < sizeof others / sizeof *others; i++) {
+        give_what_fits();
+        give_place(0);
+        lane = LANES - 1;
+        arguments[place].len = others[i];
+        good &= answers(row->step, is_of_blocks(place) ? PROVED_ARGON2_WRONG_BLOCKS : PROVED_ARGON2_WRONG_LENGTH, 0, 0);
     }
-    return code == expected_of(true, has_blocks, has_length) && is_unchanged();
+    return good;
 }
 
-static void check_over(void)
+/* Blocks at an address between two words: rejected before all other errors, except a null pointer. */
+static bool refuses_addresses(const struct row *row, enum place place)
 {
     bool good = true;
-    for (size_t n = 0; n < 5 * 5 * 5; n++) {
-        size_t number = n;
+    for (size_t n = 0; n < 3 * 7; n++) {
         give_what_fits();
-        arguments[BLOCKS].len = NEXT(of_memory, &number);
-        arguments[TAG_WRITTEN].len = arguments[OUT].len = NEXT(of_tag, &number);
-        arguments[HASH].len = NEXT(of_tag, &number);
-        const bool has_blocks = arguments[BLOCKS].len == 4 * SLICE, has_length = arguments[OUT].len == TAG;
-        const bool has_hash = arguments[HASH].len == TAG;
-        good &= answers_over(job_hash_over, has_blocks, has_length, ITS(out, TAG));
-        good &= answers_over(hash_over, has_blocks, has_length, ITS(out, TAG));
-        good &= answers_over(job_verify_over, has_blocks, has_length && has_hash, ITS(tag, TAG));
-        /* verify_over takes a hash of any length, and then computes another tag. */
-        good &= !has_hash || answers_over(verify_over, has_blocks, has_length, ITS(tag, TAG));
+        give_place(0);
+        arguments[place].at = (uint8_t *)arguments[place].at + 1 + n / 3;
+        if (n % 3 == 1) {
+            spoil();
+        } else if (n % 3 == 2) {
+            arguments[JOB].at = arguments[SETTINGS].at = NULL;
+        }
+        const bool is_refused = row->step() == (n % 3 == 2 ? PROVED_ARGON2_NULL_POINTER : PROVED_ARGON2_MISALIGNED);
+        good &= is_refused && memcmp(&written, &written_before, sizeof written) == 0;
     }
-    check(good, "hash_over, verify_over and those of a job with lengths");
+    return good;
+}
+
+static void check_row(const struct row *row)
+{
+    char name[96];
+    for (size_t i = 0; row->places[i] != END; i++) {
+        const enum place place = row->places[i];
+        snprintf(name, sizeof name, "%s: the length and the address of %s", row->name, arguments[place].name);
+        check(refuses_lengths(row, place) && (!is_of_blocks(place) || refuses_addresses(row, place)), name);
+    }
+}
+
+/* Several wrong lengths; then two lanes, which are filled except from the last one on. */
+static void check_lengths(void)
+{
+    give_what_fits();
+    give_place(0);
+    arguments[LAST].len = arguments[OUT].len = arguments[TAG_WRITTEN].len = arguments[BLOCKS].len = 1;
+    check(answers(job_finish, PROVED_ARGON2_WRONG_BLOCKS, 0, 0) && answers(job_verify, PROVED_ARGON2_WRONG_BLOCKS, 0, 0)
+            && answers(job_hash_over, PROVED_ARGON2_WRONG_BLOCKS, 0, 0)
+            && answers(job_verify_over, PROVED_ARGON2_WRONG_BLOCKS, 0, 0),
+        "blocks come before bytes");
+    arguments[OWN].len = 2 * LENGTH;
+    check(answers(job_fill, PROVED_ARGON2_OK, ITS(own, 2 * LENGTH * 1024)), "two lanes");
+    lane = LANES - 1;
+    check(answers(job_fill, PROVED_ARGON2_WRONG_BLOCKS, 0, 0), "two lanes, of which the second does not exist");
 }
 
 /* A number that a job has, by the name of its field. */
@@ -158,32 +168,22 @@ static const struct number of_a_job[] = {{"lanes", &job.lanes, 1}, {"lanes", &jo
     {"version", &job.version, PROVED_ARGON2_VERSION_10}, {"passes", &job.passes, 1},
     {"passes", &job.passes, UINT32_MAX}};
 
-CALL(job_run, arguments[OPTIONS].at, arguments[JOB].at, BYTES(OUT))
-CALL(job_run_verify, arguments[OPTIONS].at, arguments[JOB].at, BYTES(HASH))
-
-static void give_place(uint32_t place)
-{
-    pass = slice = lane = place;
-}
-
 /* A job with a number that no valid settings have: each step rejects it first. */
 static void check_no_job(const struct number *number)
 {
-    uint32_t (*const steps[])(void) = {
-        job_begin, job_fill, job_finish, job_verify, job_hash_over, job_verify_over, job_run, job_run_verify};
     bool good = true;
     char name[96];
-    for (size_t n = 0; n < 16; n++) {
+    for (size_t n = 0; n < 2 * OF_A_JOB; n++) {
         give_what_fits();
         give_place(0);
-        if (n >= 8) {
+        if (n >= OF_A_JOB) {
             spoil();
             give_place(UINT32_MAX);
         }
         job.lanes = LANES;
         *number->at = number->value;
         options = (proved_argon2_options)PROVED_ARGON2_OPTIONS;
-        good &= answers(steps[n % 8], PROVED_ARGON2_NO_JOB, 0, 0);
+        good &= answers(rows[n % OF_A_JOB].step, PROVED_ARGON2_NO_JOB, 0, 0);
     }
     snprintf(name, sizeof name, "no job: %s %u", number->name, (unsigned)number->value);
     check(good, name);
@@ -214,52 +214,14 @@ static void check_jobs(void)
     }
 }
 
-/* Blocks at an address between two words: rejected before all other errors, except a null pointer. */
-static void check_alignment(uint32_t (*step)(void), enum place place, const char *name)
-{
-    bool good = true;
-    char said[96];
-    for (size_t off = 1; off < 8; off++) {
-        for (int n = 0; n < 3; n++) {
-            give_what_fits();
-            give_place(0);
-            arguments[place].at = (uint8_t *)arguments[place].at + off;
-            if (n == 1) {
-                spoil();
-            } else if (n == 2) {
-                arguments[JOB].at = arguments[SETTINGS].at = NULL;
-            }
-            const bool is_refused = step() == (n == 2 ? PROVED_ARGON2_NULL_POINTER : PROVED_ARGON2_MISALIGNED);
-            good &= is_refused && memcmp(&written, &written_before, sizeof written) == 0;
-        }
-    }
-    snprintf(said, sizeof said, "%s, which is not aligned, for %s", arguments[place].name, name);
-    check(good, said);
-}
-
-static void check_addresses(void)
-{
-    check_alignment(job_begin, OWN, "job_begin");
-    check_alignment(job_fill, FIRST, "job_fill");
-    check_alignment(job_fill, SECOND, "job_fill");
-    check_alignment(job_fill, THIRD, "job_fill");
-    check_alignment(job_fill, OWN, "job_fill");
-    check_alignment(job_finish, LAST, "job_finish");
-    check_alignment(job_verify, LAST, "job_verify");
-    check_alignment(hash_over, BLOCKS, "hash_over");
-    check_alignment(verify_over, BLOCKS, "verify_over");
-    check_alignment(job_hash_over, BLOCKS, "job_hash_over");
-    check_alignment(job_verify_over, BLOCKS, "job_verify_over");
-}
-
-int main(int argc, char **argv)
+int main(void)
 {
     check_what_fits();
-    check_begin();
-    check_fill(argc > 1 && strcmp(argv[1], "few") == 0 ? 17 : 1);
-    check_ends();
-    check_over();
+    check_places();
+    for (size_t i = 0; i < sizeof rows / sizeof *rows; i++) {
+        check_row(&rows[i]);
+    }
+    check_lengths();
     check_jobs();
-    check_addresses();
     return finish();
 }

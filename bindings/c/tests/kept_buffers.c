@@ -1,18 +1,17 @@
 /*
- * Kept buffers: which calls use one, when one goes back to the system, and what forked children do with them
- * (proved_argon2_service.h). The clock is this program's own. It is linked with --wrap for that, and for what it counts
- * and denies.
+ * Kept buffers (proved_argon2_service.h): which calls use one, when the system gets one back, and a child's copy.
+ * schedules/explore_buffers.c has threads, calls that fork, and all buffers in use. The clock is this program's own. It
+ * is linked with --wrap for that, and for what it counts and denies.
  */
 #include "calls.h"
 #include "system.h"
 
-#include <semaphore.h>
 #include <sys/resource.h>
 #include <sys/wait.h>
 #include <time.h>
 #include <unistd.h>
 
-enum { TAG = 24, KIB = 1024, BUFFER = 4096 * KIB, BESIDE = 64 * KIB, IDLE = 10000, THREADS = 6, ROUNDS = 40 };
+enum { TAG = 24, KIB = 1024, BUFFER = 4096 * KIB, BESIDE = 64 * KIB, IDLE = 10000 };
 
 static const proved_argon2_settings usual = {PROVED_ARGON2_ID, PROVED_ARGON2_VERSION_13, 4096, 1, 2, TAG};
 static struct call call;
@@ -92,6 +91,8 @@ static void check_use(void)
     good = take(&other) && hashes(&with, 1);
     check(good && kept() == 1, "a call that needs more allocates its own memory, and keeps none");
     check(end(), "all is freed with the handle");
+    good = begin(0) && hashes(&with, 1) && hashes(&with, 1) && kept() == 0;
+    check(good && proved_argon2_buffers_free_idle(with.buffers) == 0 && end(), "a handle of no buffers");
 }
 
 /* Each call with options: what it holds beside the buffer. */
@@ -117,39 +118,7 @@ static void check_each_call(void)
     check(end(), "and gives it back");
 }
 
-/* ---- buffers in use, and denied memory */
-
-static size_t depth;
-static bool is_nested_right;
-
-/* Hashes within a hash, and once more within that one. */
-static int nest(void *levels, uint64_t done, uint64_t all)
-{
-    if (done == 1 && depth < *(const size_t *)levels) {
-        uint8_t tag[TAG];
-        depth++;
-        is_nested_right = hash_raw(&with, &call, tag) == PROVED_ARGON2_OK && memcmp(tag, expected, TAG) == 0
-            && is_nested_right;
-        depth--;
-    }
-    return done > all;
-}
-
-static void check_most(void)
-{
-    size_t levels = 3;
-    bool good = begin(2);
-    with.progress = nest;
-    with.arg = &levels;
-    is_nested_right = true;
-    /* Each of the calls also allocates its workers; two make buffers, and two allocate blocks. */
-    good = hashes(&with, 8) && is_nested_right && good;
-    check(good && kept() == 2, "if all buffers are in use, calls allocate their own memory");
-    check(hashes(&with, 6) && is_nested_right && kept() == 2, "and later ones use what was given back");
-    check(end(), "both are freed");
-    good = begin(0) && hashes(&with, 1) && hashes(&with, 1) && kept() == 0;
-    check(good && proved_argon2_buffers_free_idle(with.buffers) == 0 && end(), "a handle of no buffers");
-}
+/* ---- denied memory */
 
 /* Denies all mappings, or none. */
 static void deny_mappings(bool are_denied)
@@ -183,15 +152,28 @@ static void check_denied(void)
 
 /* ---- time */
 
-/* Two buffers, which two calls have used: one call within the other. */
+static bool is_nested_right;
+
+/* Hashes within a hash. */
+static int nest(void *arg, uint64_t done, uint64_t all)
+{
+    proved_argon2_options inner = with;
+    uint8_t tag[TAG];
+    (void)arg;
+    inner.progress = NULL;
+    if (done == 1) {
+        is_nested_right = hash_raw(&inner, &call, tag) == PROVED_ARGON2_OK && memcmp(tag, expected, TAG) == 0;
+    }
+    return done > all;
+}
+
+/* Two buffers, which two calls have used: one call within the other. The outer one also allocates its
+ * workers. */
 static bool begin_with_two(void)
 {
-    size_t levels = 1;
     bool good = begin(2);
     with.progress = nest;
-    with.arg = &levels;
-    is_nested_right = true;
-    good = hashes(&with, 4) && is_nested_right && good;
+    good = hashes(&with, 3) && is_nested_right && good;
     with.progress = NULL;
     return good && kept() == 2;
 }
@@ -226,184 +208,26 @@ static void check_idle_by_calls(void)
     check(end() && proved_argon2_buffers_free_idle(NULL) == 0, "no handle has no buffer");
 }
 
-/* Lets time pass while the call's buffer is in use. */
-static int wait_long(void *arg, uint64_t done, uint64_t all)
+/* ---- a forked child */
+
+/* The system copies the buffers of a handle for a child. */
+static void check_fork(void)
 {
-    milliseconds += 2 * IDLE;
-    *(uint32_t *)arg += proved_argon2_buffers_free_idle(with.buffers);
-    return done > all;
-}
-
-static void check_used_for_long(void)
-{
-    uint32_t next = 0;
-    bool good = begin(1);
-    with.progress = wait_long;
-    with.arg = &next;
-    good = hashes(&with, 2) && good;
-    check(good && next == 0 && kept() == 1, "a buffer in use is not idle, however long the call takes");
-    check(proved_argon2_buffers_free_idle(with.buffers) == IDLE && end(), "it is idle from the end of the call on");
-}
-
-/* ---- threads, which use a handle of too few buffers */
-
-static struct thread {
-    struct call call;
-    uint8_t expected[LONGEST];
-    pthread_t thread;
-    bool is_right;
-} threads[THREADS];
-
-static void *hash_often(void *arg)
-{
-    struct thread *const self = arg;
-    uint8_t tag[TAG];
-    self->is_right = true;
-    for (uint32_t i = 0; i < ROUNDS; i++) {
-        self->is_right = hash_raw(&with, &self->call, tag) == PROVED_ARGON2_OK && memcmp(tag, self->expected, TAG) == 0
-            && self->is_right;
-        milliseconds += IDLE / THREADS;
-    }
-    return NULL;
-}
-
-static void check_threads(void)
-{
-    bool good = begin(THREADS / 2);
-    for (uint32_t i = 0; i < THREADS; i++) {
-        threads[i].call = call;
-        threads[i].call.pwd[0] = (uint8_t)i;
-        good = peer(&threads[i].call, threads[i].expected) && good;
-        good = __real_pthread_create(&threads[i].thread, NULL, hash_often, &threads[i]) == 0 && good;
-    }
-    for (uint32_t i = 0; i < THREADS; i++) {
-        good = __real_pthread_join(threads[i].thread, NULL) == 0 && threads[i].is_right && good;
-    }
-    check(good && kept() <= THREADS / 2, "threads compute right tags, and no more buffers are kept than allowed");
-    milliseconds += IDLE;
-    check(proved_argon2_buffers_free_idle(with.buffers) == 0 && kept() == 0 && end(), "all of them are freed");
-}
-
-/* ---- forked children */
-
-static bool ends_well(pid_t child)
-{
-    int status;
-    return child > 0 && waitpid(child, &status, 0) == child && WIFEXITED(status) && WEXITSTATUS(status) == 0;
-}
-
-static sem_t is_computing, goes_further;
-static bool is_other_right;
-
-/* Holds a call up after its second slice. */
-static int hold_up(void *arg, uint64_t done, uint64_t all)
-{
-    (void)arg;
-    if (done == 2) {
-        sem_post(&is_computing);
-        sem_wait(&goes_further);
-    }
-    return done > all;
-}
-
-static void *hash_slowly(void *arg)
-{
-    proved_argon2_options slow = with;
-    uint8_t tag[TAG];
-    slow.progress = hold_up;
-    is_other_right = hash_raw(&slow, &call, tag) == PROVED_ARGON2_OK && memcmp(tag, expected, TAG) == 0;
-    sem_post(&is_computing); /* (if it failed before) */
-    return arg;
-}
-
-static uint64_t sum_of(const void *memory)
-{
-    const uint64_t *const words = memory;
-    uint64_t sum = 0;
-    for (size_t i = 0; i < BUFFER / sizeof *words; i++) {
-        sum = 31 * sum + words[i];
-    }
-    return sum;
-}
-
-/* Returns whether a child leaves the buffer that its parent's other thread uses, and has as many others as it may. */
-static bool child_is_right(const void *used, size_t others)
-{
-    const uint64_t before = sum_of(used);
-    bool good = before != 0 && hashes(&with, 1) && hashes(&with, others == 0 ? 1 : 0);
-    milliseconds += IDLE;
-    good = good && proved_argon2_buffers_free_idle(with.buffers) == 0 && kept() == 1 && sum_of(used) == before;
-    proved_argon2_buffers_free(with.buffers);
-    return good && kept() == 0;
-}
-
-/* A child of a process whose other thread computes in one of this many buffers. */
-static bool is_child_beside_right(uint32_t most)
-{
-    pthread_t thread;
-    sem_init(&is_computing, 0, 0);
-    sem_init(&goes_further, 0, 0);
-    bool good = begin(most);
-    if (__real_pthread_create(&thread, NULL, hash_slowly, NULL) != 0) {
-        return false;
-    }
-    sem_wait(&is_computing);
-    const uint8_t *const mapped = last_mapped, *const used = mapped + (-(uintptr_t)mapped & ((2u << 20) - 1));
-    const pid_t child = fork();
-    if (child == 0) {
-        alarm(60);
-        _exit(child_is_right(used, most - 1) ? 0 : 1);
-    }
-    good = ends_well(child) && good;
-    sem_post(&goes_further);
-    return __real_pthread_join(thread, NULL) == 0 && is_other_right && hashes(&with, 0) && end() && good;
-}
-
-/* Forks in the middle of a hash. */
-static int fork_in_the_middle(void *child, uint64_t done, uint64_t all)
-{
-    if (2 * done == all) {
-        *(pid_t *)child = fork();
-        alarm(*(pid_t *)child == 0 ? 60 : 0);
-    }
-    return done > all;
-}
-
-static void check_forks(void)
-{
-    pid_t child = -1;
-    check(is_child_beside_right(1), "a child does not use the buffer of a thread of its parent");
-    check(is_child_beside_right(2), "a child makes another buffer, if there may be one");
+    int status = 1;
     bool good = begin(1) && hashes(&with, 1);
-    with.progress = fork_in_the_middle;
-    with.arg = &child;
-    good = hashes(&with, 1) && good;
-    with.progress = NULL;
-    good = hashes(&with, 0) && kept() == 1 && end() && good;
-    if (child == 0) {
-        _exit(good ? 0 : 1);
-    }
-    check(ends_well(child) && good, "both processes go on with a hash in which one forked, and keep the buffer");
-    good = begin(1) && hashes(&with, 1);
-    child = fork();
+    const pid_t child = fork();
     if (child == 0) {
         _exit(hashes(&with, 0) && end() ? 0 : 1);
     }
-    check(ends_well(child) && hashes(&with, 0) && end() && good, "a child uses its copy of an idle buffer");
+    good = child > 0 && waitpid(child, &status, 0) == child && status == 0 && good;
+    check(good && hashes(&with, 0) && end(), "a child uses its copy of an idle buffer");
 }
 
 /* ---- what is refused */
 
 static void check_refused(void)
 {
-    proved_argon2_settings bad = usual;
     proved_argon2_buffers *const before = (proved_argon2_buffers *)&call, *made = before;
-    bad.variant = 3;
-    check_code(proved_argon2_buffers_new(&bad, 1, &made), PROVED_ARGON2_INCORRECT_TYPE, "no such variant");
-    bad = usual, bad.mem_cost = 15;
-    check_code(proved_argon2_buffers_new(&bad, 1, &made), PROVED_ARGON2_MEMORY_TOO_LITTLE, "too little memory");
-    bad = usual, bad.time_cost = 0;
-    check_code(proved_argon2_buffers_new(&bad, 1, &made), PROVED_ARGON2_TIME_TOO_SMALL, "no passes");
     refuse_request(1);
     errno = 77;
     check_code(proved_argon2_buffers_new(&usual, 1, &made), PROVED_ARGON2_OUT_OF_MEMORY, "a denied handle");
@@ -419,13 +243,10 @@ int main(void)
 {
     check_use();
     check_each_call();
-    check_most();
     check_denied();
     check_idle();
     check_idle_by_calls();
-    check_used_for_long();
-    check_threads();
-    check_forks();
+    check_fork();
     check_refused();
     return finish();
 }

@@ -1,11 +1,12 @@
 /*
  * Memory: what each call allocates, that each allocation may fail, that a call holds little more than the blocks, and
- * that it frees everything. It is linked with --wrap for what it counts and denies.
+ * that it frees everything; and reusable buffers. kept_buffers.c makes calls in one. It is linked with --wrap for
+ * what it counts and denies.
  */
 #include "calls.h"
 #include "system.h"
 
-enum { TAG = 32, SMALL = 256, LARGE = 3072, HUGE_PAGE = 2 << 20, LONG_REST = 768 << 10 };
+enum { TAG = 32, SMALL = 256, LARGE = 3072, FAR = 8192, HUGE_PAGE = 2 << 20, LONG_REST = 768 << 10 };
 
 /* A call may write to this buffer. An error leaves it unchanged. */
 static uint8_t buffer[256], before[256];
@@ -215,8 +216,30 @@ static void check_calls(uint32_t mem_cost)
     }
 }
 
-/* Allocating the caller's buffer is the only request. */
-static void check_memory_new(uint32_t mem_cost)
+/* ---- reusable buffers */
+
+/* Returns whether the mapping at an address has a flag, such as " dd ": a core dump leaves it out. */
+static inline bool has_flag(const void *address, const char *flag)
+{
+    FILE *const maps = fopen("/proc/self/smaps", "r");
+    char line[512];
+    bool is_in = false, has = false;
+    while (maps != NULL && fgets(line, sizeof line, maps) != NULL) {
+        unsigned long from, to;
+        if (sscanf(line, "%lx-%lx ", &from, &to) == 2) {
+            is_in = from <= (uintptr_t)address && (uintptr_t)address < to;
+        }
+        has |= is_in && strncmp(line, "VmFlags:", 8) == 0 && strstr(line, flag) != NULL;
+    }
+    if (maps != NULL) {
+        fclose(maps);
+    }
+    return has;
+}
+
+/* Allocating the buffer is the only request: it has as many bytes as the settings need, at an aligned address. A core
+ * dump leaves out all of a mapping. */
+static void check_memory_new(uint32_t mem_cost, size_t multiple, bool shows_flags)
 {
     void *memory = &memory;
     size_t len = 5;
@@ -229,9 +252,46 @@ static void check_memory_new(uint32_t mem_cost)
         "a memory that is refused");
     refuse_nothing();
     code = proved_argon2_memory_new(&call.settings, &memory, &len);
-    check(code == PROVED_ARGON2_OK && requests == 1 && held >= len, "a memory is one request");
+    check(code == PROVED_ARGON2_OK && requests == 1 && held >= len && errno == 77, "a memory is one request");
+    check(len == (size_t)mem_cost * 1024 && len == proved_argon2_memory_len(&call.settings)
+            && (uintptr_t)memory % multiple == 0,
+        "its length and its address");
+    const bool is_left_out = has_flag(memory, " dd ") && has_flag((uint8_t *)memory + len - 1, " dd ");
+    check(!shows_flags || is_left_out == (multiple == HUGE_PAGE), "a core dump leaves out a mapping");
+    memset(memory, 5, len);
+    errno = 77; /* (which the look at the flags may change) */
     proved_argon2_memory_free(memory, len);
     check(held == 0 && errno == 77, "and is given back");
+    proved_argon2_memory_free(NULL, 0);
+    proved_argon2_memory_free(NULL, len);
+    check(held == 0, "freeing null frees nothing");
+}
+
+static size_t count_of(uint8_t byte, const uint8_t *bytes, size_t len)
+{
+    size_t count = 0;
+    for (size_t i = 0; i < len; i++) {
+        count += bytes[i] == byte;
+    }
+    return count;
+}
+
+/* A call overwrites its blocks in a larger buffer, and nothing behind them. Where they are many, it does so in another
+ * way. */
+static void check_overwriting(uint32_t mem_cost)
+{
+    enum { MORE = 1024 * 1024 };
+    const size_t used = (size_t)mem_cost * 1024;
+    make(mem_cost);
+    with = by(1);
+    proved_argon2_settings larger = call.settings;
+    larger.mem_cost += MORE / 1024;
+    check_code(proved_argon2_memory_new(&larger, &with.memory, &with.memory_len), PROVED_ARGON2_OK, "a larger buffer");
+    memset(with.memory, 5, with.memory_len);
+    const bool good = hash_raw(&with, &call, buffer) == PROVED_ARGON2_OK && memcmp(buffer, tag, TAG) == 0;
+    check(good && count_of(0, with.memory, used) == used && count_of(5, (uint8_t *)with.memory + used, MORE) == MORE,
+        "the blocks are overwritten");
+    proved_argon2_memory_free(with.memory, with.memory_len);
 }
 
 /* The archive's own memmove and memset, by which all its objects move and set bytes. */
@@ -318,18 +378,22 @@ static void check_without_memory(void)
         "nor do calls that neither hash nor verify");
 }
 
-/* With the word `few`, resident memory is not checked: an emulator's pages would count. */
+/* With the word `few`, neither resident memory nor flags are checked: an emulator's pages would count, and it does not
+ * show the flags. */
 int main(int argc, char **argv)
 {
+    const bool is_few = argc > 1 && strcmp(argv[1], "few") == 0;
     check_calls(SMALL);
     check_calls(LARGE);
     check_huge_pages();
     check_denied_unmapping();
-    if (argc == 1 || strcmp(argv[1], "few") != 0) {
+    if (!is_few) {
         check_resident();
     }
-    check_memory_new(SMALL);
-    check_memory_new(LARGE);
+    check_memory_new(SMALL, 64, !is_few);
+    check_memory_new(LARGE, HUGE_PAGE, !is_few);
+    check_overwriting(LARGE);
+    check_overwriting(FAR);
     check_moving();
     check_setting();
     check_without_memory();

@@ -147,7 +147,8 @@ static const struct row {
 
 /* ---- null pointers */
 
-/* Returns whether a call succeeds if all fits, and fails for another reason if all but the pointers is spoilt. */
+/* Returns whether a call succeeds if all fits, and fails for another reason if all but the pointers is spoilt: then it
+ * writes nothing. */
 static bool tells_what_fits(const struct row *row)
 {
     give_what_fits();
@@ -155,12 +156,14 @@ static bool tells_what_fits(const struct row *row)
     give_what_fits();
     spoil();
     const uint32_t spoilt = row->call();
+    const bool is_kept = memcmp(&written, &written_before, sizeof written) == 0;
     /* The encoded hash has associated data, which these three calls cannot pass: they never match. */
     const bool is_other = row->call == password_verify || row->call == password_verify_with
         || row->call == password_verify_unknown;
     const bool is_done = whole == (is_other ? PROVED_ARGON2_MISMATCH : PROVED_ARGON2_OK);
     const bool is_whole = row->call == memory_free || row->call == buffers_free;
-    return is_done && (is_whole ? spoilt == PROVED_ARGON2_OK : spoilt != whole && spoilt != PROVED_ARGON2_NULL_POINTER);
+    return is_done && is_kept
+        && (is_whole ? spoilt == PROVED_ARGON2_OK : spoilt != whole && spoilt != PROVED_ARGON2_NULL_POINTER);
 }
 
 static bool refuses_null(const struct row *row, enum place place, bool is_spoilt)

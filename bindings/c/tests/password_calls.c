@@ -1,4 +1,6 @@
-/* Hashing and verifying in one call each. It is linked with --wrap=getrandom, so that the salt is known. */
+/* Hashing and verifying in one call each. It is linked with --wrap=getrandom, so that the salt is known. That all bytes
+ * of passwords and peppers count, and exactly which settings make a rehash due, is checked in the machine code (the way
+ * of a verdict, docs/CLAIMS.md). */
 #include "checks.h"
 
 #include <errno.h>
@@ -68,69 +70,11 @@ static void check_password(void)
     check(code == PROVED_ARGON2_OK && errno == 77, "a signal is no error");
 }
 
-/* ---- lengths */
-
-enum { LONG = 200 };
+/* ---- a rehash that is due */
 
 static const proved_argon2_options with = PROVED_ARGON2_OPTIONS;
 static const proved_argon2_settings small = {PROVED_ARGON2_ID, PROVED_ARGON2_VERSION_13, 8, 1, 1, 4};
-static char password[LONG + 1];
-static uint8_t pepper[LONG + 1];
-
-/* The result of verifying; without a pepper, by the call that accepts none. */
-static uint32_t verdict_of(const char *text, size_t length, size_t pepper_len)
-{
-    return pepper_len == 0 ? proved_argon2_password_verify(text, password, length)
-                           : proved_argon2_password_verify_with(&with, text, password, length, pepper, pepper_len);
-}
-
-/* Returns whether hash_encoded makes a call's encoded hash from these bytes. */
-static bool is_text_of(const char *text, const proved_argon2_settings *settings, size_t length, size_t pepper_len)
-{
-    char other[PROVED_ARGON2_TEXT_SIZE];
-    uint8_t salt[16];
-    fill_bytes(salt, sizeof salt, 0x80);
-    return proved_argon2_hash_encoded(bytes_of(password), length, salt, sizeof salt, pepper, pepper_len, NULL, 0,
-               settings, other, sizeof other)
-        == PROVED_ARGON2_OK
-        && strcmp(text, other) == 0;
-}
-
-/* Returns whether an encoded hash verifies, but not if a byte of password or pepper is changed, added or left out. */
-static bool is_whole(const char *text, size_t length, size_t pepper_len)
-{
-    bool good = verdict_of(text, length, pepper_len) == PROVED_ARGON2_OK
-        && verdict_of(text, length + 1, pepper_len) == PROVED_ARGON2_MISMATCH
-        && verdict_of(text, length, pepper_len + 1) == PROVED_ARGON2_MISMATCH
-        && (length == 0 || verdict_of(text, 0, pepper_len) == PROVED_ARGON2_MISMATCH);
-    password[length - (length != 0)] ^= 8;
-    good &= verdict_of(text, length, pepper_len) == (length == 0 ? PROVED_ARGON2_OK : PROVED_ARGON2_MISMATCH);
-    password[length - (length != 0)] ^= 8;
-    pepper[pepper_len - (pepper_len != 0)] ^= 8;
-    good &= verdict_of(text, length, pepper_len) == (pepper_len == 0 ? PROVED_ARGON2_OK : PROVED_ARGON2_MISMATCH);
-    pepper[pepper_len - (pepper_len != 0)] ^= 8;
-    return good;
-}
-
-static void check_lengths(void)
-{
-    static const size_t lengths[] = {0, 1, 32, 33, 64, 65, 72, 73, 128, 129, LONG};
-    const proved_argon2_settings settings = proved_argon2_owasp2();
-    const size_t count = sizeof lengths / sizeof *lengths;
-    char text[PROVED_ARGON2_TEXT_SIZE];
-    bool good = true;
-    for (size_t i = 0; i < count * count; i++) {
-        const size_t length = lengths[i / count], pepper_len = lengths[i % count];
-        uint32_t code = proved_argon2_password_hash_with(&with, &small, text, password, length, pepper, pepper_len);
-        good = good && code == PROVED_ARGON2_OK && is_text_of(text, &small, length, pepper_len)
-            && is_whole(text, length, pepper_len);
-        code = pepper_len == 0 ? proved_argon2_password_hash(text, password, length) : code;
-        good = good && code == PROVED_ARGON2_OK && (pepper_len != 0 || is_text_of(text, &settings, length, 0));
-    }
-    check(good, "each byte of a password and of a pepper counts");
-}
-
-/* ---- a rehash that is due */
+static const uint8_t pepper[32];
 
 static int stop(void *arg, uint64_t done, uint64_t all)
 {
@@ -144,38 +88,6 @@ static uint32_t rehash_verdict(proved_argon2_options options, const char *text, 
     return proved_argon2_password_verify_with(&options, text, guess, strlen(guess), pepper, pepper_len);
 }
 
-/* Each setting that differs makes a rehash due, and no wrong password or pepper does. */
-static void check_other_settings(const char *text)
-{
-    proved_argon2_settings new_settings = small;
-    uint32_t *const fields[] = {&new_settings.variant, &new_settings.version, &new_settings.mem_cost,
-        &new_settings.time_cost, &new_settings.lanes, &new_settings.hash_length};
-    const proved_argon2_options options = {.size = sizeof options, .new_settings = &new_settings};
-    bool is_due = rehash_verdict(options, text, "password", 5) == PROVED_ARGON2_OK, is_wrong = true;
-    for (size_t i = 0; i < sizeof fields / sizeof *fields; i++) {
-        ++*fields[i];
-        is_due = is_due && rehash_verdict(options, text, "password", 5) == PROVED_ARGON2_NEEDS_REHASH;
-        is_wrong = is_wrong && rehash_verdict(options, text, "Password", 5) == PROVED_ARGON2_MISMATCH
-            && rehash_verdict(options, text, "password", 4) == PROVED_ARGON2_MISMATCH;
-        --*fields[i];
-    }
-    check(is_due, "a match with one other setting, and with none");
-    check(is_wrong, "a wrong password, and a wrong pepper, with one other setting");
-}
-
-/* A salt of another length makes a rehash due too, if the options name a length and new settings. */
-static void check_other_salt(const char *text)
-{
-    const proved_argon2_options same = {.size = sizeof same, .new_settings = &small, .new_salt_len = 16};
-    const proved_argon2_options other = {.size = sizeof other, .new_settings = &small, .new_salt_len = 15};
-    const proved_argon2_options alone = {.size = sizeof alone, .new_salt_len = 15};
-    check(rehash_verdict(same, text, "password", 5) == PROVED_ARGON2_OK
-            && rehash_verdict(other, text, "password", 5) == PROVED_ARGON2_NEEDS_REHASH
-            && rehash_verdict(alone, text, "password", 5) == PROVED_ARGON2_OK,
-        "a match with a salt of another length");
-    check_code(rehash_verdict(other, text, "Password", 5), PROVED_ARGON2_MISMATCH, "a wrong password with such a salt");
-}
-
 static void check_rehash(void)
 {
     static const char old[] = "$argon2i$m=256,t=2,p=2$c29tZXNhbHQ$tsEVYKap1h6scGt5ovl9aLRGOqOth+AMB+KwHpDFZPs";
@@ -187,8 +99,11 @@ static void check_rehash(void)
     char text[PROVED_ARGON2_TEXT_SIZE];
     const uint32_t code = proved_argon2_password_hash_with(&with, &small, text, "password", 8, pepper, 5);
     check_code(code, PROVED_ARGON2_OK, "a text with a pepper");
-    check_other_settings(text);
-    check_other_salt(text);
+    proved_argon2_options of_small = {.size = sizeof of_small, .new_settings = &small, .new_salt_len = 16};
+    check_code(rehash_verdict(of_small, text, "password", 5), PROVED_ARGON2_OK, "its settings and its salt are new");
+    check_code(rehash_verdict(of_small, text, "password", 4), PROVED_ARGON2_MISMATCH, "a part of the pepper");
+    of_small.new_salt_len = 15;
+    check_code(rehash_verdict(of_small, text, "password", 5), PROVED_ARGON2_NEEDS_REHASH, "another length of the salt");
     check_code(rehash_verdict(options, old, "password", 0), PROVED_ARGON2_NEEDS_REHASH, "a text of libargon2");
     check_code(rehash_verdict(options, old, "Password", 0), PROVED_ARGON2_MISMATCH, "a wrong password of it");
     check_code(rehash_verdict(options, old + 1, "password", 0), PROVED_ARGON2_DECODING_FAIL, "no text");
@@ -248,7 +163,6 @@ static void check_unknown(void)
 int main(void)
 {
     check_password();
-    check_lengths();
     check_rehash();
     check_unknown();
     return finish();

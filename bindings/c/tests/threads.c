@@ -1,6 +1,7 @@
 /*
- * The calls with options (bindings/c): tags with 1 to 33 threads compared with libargon2's, the caller's buffer,
- * options and limits. starts.c tests threads, memory.c memory, and clearing.c what is left in the process.
+ * The calls with options (bindings/c): tags with 1 to 33 threads compared with libargon2's, also in the caller's
+ * buffer. results.c tests options and limits, starts.c threads, memory.c memory, and clearing.c what is left in the
+ * process.
  *
  *     threads          all checks
  *     threads few      for valgrind's tools: address space, a few tags, and eight hashes at once
@@ -143,72 +144,6 @@ static void check_address_space(void)
     check(peak_address_space() - before < MOST_KIB, "four threads take less than 256 MiB of address space");
 }
 
-/* ---- options */
-
-static const struct call sample = {
-    {PROVED_ARGON2_ID, PROVED_ARGON2_VERSION_13, 256, 2, 4, 32}, "password", "somesalt", "", "", 8, 8, 0, 0};
-
-/* A call that fails: its error, and unchanged outputs. */
-static void check_refused(const proved_argon2_options *with, uint32_t expected, const char *name)
-{
-    uint8_t tag[LONGEST], before[LONGEST];
-    fill_bytes(tag, sizeof tag, 3);
-    memcpy(before, tag, sizeof tag);
-    check_code(hash_raw(with, &sample, tag), expected, name);
-    check(memcmp(tag, before, sizeof tag) == 0, "the tag is as it was");
-}
-
-static void check_options(void)
-{
-    uint8_t tag[LONGEST];
-    static _Alignas(8) uint8_t memory[256 * 1024 + 4];
-    proved_argon2_options with = by(4);
-    check_refused(NULL, PROVED_ARGON2_NULL_POINTER, "no options");
-    with.size = 0;
-    check_refused(&with, PROVED_ARGON2_WRONG_LENGTH, "options of no size");
-    with.size = SIZE_MAX;
-    check_refused(&with, PROVED_ARGON2_WRONG_LENGTH, "options of the largest size");
-    struct longer {
-        proved_argon2_options known;
-        uint64_t later;
-        uint8_t zeros[4096];
-    } longer = {by(4), 0, {0}};
-    longer.known.size = 4097;
-    check_refused(&longer.known, PROVED_ARGON2_WRONG_LENGTH, "options longer than any, all zeros");
-    longer.later = 1;
-    longer.known.size = offsetof(struct longer, zeros);
-    check_refused(&longer.known, PROVED_ARGON2_WRONG_LENGTH, "options of a later version");
-    longer.later = 0;
-    check_code(hash_raw(&longer.known, &sample, tag), PROVED_ARGON2_OK, "options of a later version with nothing more");
-    with = by(4);
-    memset(memory, 1, sizeof memory);
-    with.memory = memory + 4;
-    with.memory_len = 256 * 1024;
-    check_refused(&with, PROVED_ARGON2_MISALIGNED, "a memory at a multiple of 4");
-    check(memory[4] == 1 && memory[256 * 1024 + 3] == 1, "it is as it was");
-    with.memory = memory;
-    with.memory_len = 256 * 1024 - 1;
-    check_refused(&with, PROVED_ARGON2_OUT_OF_MEMORY, "a memory that is a byte short");
-}
-
-/* An encoded hash of zeros within limits: above one, nothing starts. */
-static void check_limits(void)
-{
-    static const char text[] = "$argon2id$v=19$m=256,t=2,p=4$c29tZXNhbHQ$AAAAAAAAAAAAAAAAAAAAAAAAAAAAAAAAAAAAAAAAAAA";
-    const proved_argon2_limits at = {256, 2, 4, 512};
-    proved_argon2_options with = by(4);
-    with.limits = &at;
-    check_code(verify_encoded(&with, &sample, text), PROVED_ARGON2_MISMATCH, "a text at its limits");
-    const proved_argon2_limits below[] = {{255, 2, 4, 512}, {256, 1, 4, 512}, {256, 2, 3, 512}, {256, 2, 4, 511}};
-    for (size_t i = 0; i < sizeof below / sizeof *below; i++) {
-        refuse_starts(1, SIZE_MAX);
-        with.limits = &below[i];
-        check_code(verify_encoded(&with, &sample, text), PROVED_ARGON2_TOO_COSTLY, "a text above a limit");
-        check(starts == 0, "it starts nothing");
-    }
-    refuse_nothing();
-}
-
 int main(int argc, char **argv)
 {
     if (argc > 1 && strcmp(argv[1], "few") == 0) {
@@ -223,7 +158,5 @@ int main(int argc, char **argv)
     check_interrupted_waits();
     check_at_once(1);
     check_at_once(THREADS);
-    check_options();
-    check_limits();
     return finish();
 }

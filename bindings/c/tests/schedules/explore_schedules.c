@@ -59,6 +59,7 @@ static struct run {
     uint32_t code;            /* how the call is to end: nothing fails after the first failure */
     uint32_t begun, filled;   /* lanes, a bit for each */
     uint64_t stage, reported; /* slices that are filled, or are being filled, and those that were reported */
+    size_t overwritten;       /* bytes of the arena */
     bool is_finished, is_dirty, is_forked, is_caller_saved;
     uint32_t switches;          /* how often it switched threads without need */
     bool has_failed_spuriously; /* an exchange did, spuriously */
@@ -430,12 +431,15 @@ void proved_driver_unmap_pages(void *pages, size_t bytes)
     run.is_dirty = false;
 }
 
+/* The driver overwrites blocks at once or one by one, from the first on. The arena keeps what it has. */
 void proved_driver_overwrite(void *bytes, size_t len)
 {
-    if (bytes == arena && len == arena_len()) {
-        run.is_dirty = false;
-    } else if (bytes != arena) {
+    const uintptr_t at = (uintptr_t)bytes - (uintptr_t)arena;
+    if (at >= sizeof arena) {
         memset(bytes, 0, len);
+    } else if (at == run.overwritten) {
+        run.overwritten += len;
+        run.is_dirty = run.overwritten != arena_len();
     }
 }
 

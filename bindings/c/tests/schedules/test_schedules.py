@@ -35,7 +35,7 @@ RUNS = {(1, 1): (128, 192), (1, 2): (128, 192), (1, 3): (128, 192),
         (3, 1): (176, 272), (3, 2): (73476, 408010), (3, 3): (774728, 257008), (4, 2): (82494,)}
 # By each fault's name: a piece of the driver, and what takes its place. @ separates the lines of a piece.
 FAULTS = {name: [piece.replace('@', '\n') for piece in pieces] for name, *pieces in rows(HERE / 'faults.txt')}
-assert len(FAULTS) == 47
+assert len(FAULTS) == 48
 # By model and move, a piece of the model, and one with which the model allows the move less often.
 NARROWER = {
     ('Team', 'Wakes'): ('s.woken j ≤ s.step', 's.woken j < s.step'),

@@ -29,7 +29,7 @@ OK, DECODING_FAIL, MISMATCH = 0, 19, 64
 FEW_BLOCKS, MAPPED_BLOCKS, CHEAP = 640, 1024, 2048
 # The fewest blocks, and blocks over all passes, for which C starts threads (proved_argon2_driver.c).
 OF_THREADS, IN_ALL_PASSES = 2048, 4096
-RUN = 128  # blocks of a segment that are filled at a time
+CACHED_BLOCKS = 1024  # the most for which C's call for a whole hash prefetches nothing (argon2_c/src/prefetching.rt)
 OF_A_TEXT = 4  # reports: of two branches, in each of two calls (check_encoded and job_read)
 CAPACITY = 4096
 ASKED, ANSWERED = struct.Struct('<9I' + f'I{CAPACITY}s' * 5), struct.Struct(f'<4I{CAPACITY}s{CAPACITY}s')
@@ -62,26 +62,29 @@ class Vector(NamedTuple):
     def blocks(self):
         return self.passes * self.memory
 
+    def in_memory(self):
+        """Returns how many blocks the memory has (RFC 9106, 3.2)."""
+        return self.memory // (4 * self.lanes) * 4 * self.lanes
+
     def references(self):
         """Returns how many blocks have a reference that a block selects: none in Argon2i; in Argon2d all except the
         first two of each lane; in Argon2id all after the first two slices of the first pass (RFC 9106, 3.4)."""
-        slices = self.lanes * (self.memory // (4 * self.lanes))
-        others = 2 * self.lanes, 4 * slices * self.passes, 2 * slices
-        return 4 * slices * self.passes - others[self.variant]
+        all_passes = self.in_memory() * self.passes
+        others = 2 * self.lanes, all_passes, self.in_memory() // 2
+        return all_passes - others[self.variant]
 
     def told(self, count):
         """Returns how many of these references of a lane are told beforehand, if `count` of each whole segment are."""
         slices = 4 * self.passes, 0, 4 * self.passes - 2
         return slices[self.variant] * count - (min(2, count) if self.variant == 0 else 0)
 
-    def expected(self, most_threads):
-        """Returns how many of these references are told beforehand: in lanes that a thread fills two by turns, all
-        except the first of each run of 128 blocks. Each thread has neighbouring lanes."""
+    def by_turns(self, most_threads):
+        """Returns how many of these references are in lanes that a thread fills two by turns. They can be told
+        beforehand. Each thread has neighbouring lanes."""
         threads = min(most_threads, self.lanes) if has_threads(self) else 1
         lanes_of_each = Counter(lane * threads // self.lanes for lane in range(self.lanes))
-        length = self.memory // (4 * self.lanes)
-        by_turns = sum(lanes // 2 * 2 for lanes in lanes_of_each.values())
-        return by_turns * self.told(length - -(-length // RUN))
+        paired = sum(lanes // 2 * 2 for lanes in lanes_of_each.values())
+        return paired * self.told(self.memory // (4 * self.lanes))
 
     def ahead(self):
         """Returns how many are found while the block before is computed: in the only lane, all except the first of
@@ -110,11 +113,19 @@ class Question(NamedTuple):
     def references(self):
         return self.vector.references() if self.code != DECODING_FAIL else 0
 
+    def prefetches(self):
+        """Returns whether the call prefetches: in steps, which report progress, or over many blocks."""
+        is_in_steps = self.options in (PROGRESS, CALLER)
+        return self.code != DECODING_FAIL and (is_in_steps or self.vector.in_memory() > CACHED_BLOCKS)
+
+    def by_turns(self):
+        return self.vector.by_turns(MOST_THREADS[self.options]) if self.code != DECODING_FAIL else 0
+
     def expected(self):
-        return self.vector.expected(MOST_THREADS[self.options]) if self.code != DECODING_FAIL else 0
+        return self.by_turns() if self.prefetches() else 0
 
     def ahead(self):
-        return self.vector.ahead() if self.code != DECODING_FAIL else 0
+        return self.vector.ahead() if self.prefetches() else 0
 
     def is_right(self, came, reads, tells, finds):
         """A verdict is hidden, but DECODING_FAIL for a malformed hash is not. Every bit of a tag is hidden, and at

@@ -12,7 +12,7 @@ depends.txt has what each case may report.
 
 import re
 import subprocess
-from collections import defaultdict
+from collections import Counter, defaultdict
 from itertools import product
 
 import cases as of
@@ -28,6 +28,7 @@ SECONDS = 3600
 # The builds, each with how many places find or read the block that is referred to, how many find and prefetch it, and
 # how many do so while the block before is computed.
 READS = dict(zip(machines()['x86_64'].proved, ((10, 2, 1), (9, 2, 1)), strict=True))
+PLACES_OF_PAIRS = 4  # in the loop over two lanes and behind it, for each lane
 # Memcheck does not see a prefetch. So the function that prefetches reads, as that does which is proved.
 EXPECT, READS_A_WORD = '.text.argon2_c::prefetching::proved_argon2_expect', b'\x48\x8b\x07\xc3'
 # The function that fills ahead prefetches in the build for x86-64-v4. In the others it reads at the same address, once
@@ -115,13 +116,20 @@ class Came:
         self.is_ended = ran.returncode == 0 and len(answers) == len(questions) > 0
         self.wrong = [answer[:4] for question, answer in zip(questions, answers)
                       if not question.is_right(answer, *READS[cpu])]
-        # Each reference is found and read by addresses at READS places, once at each.
-        numbers = (sum(one.references() for one in questions), sum(one.expected() for one in questions),
-                   sum(one.ahead() for one in questions))
-        addresses = [number for number, places in zip(numbers, READS[cpu]) if number for _ in range(places)]
         self.is_right = (self.is_ended and not self.wrong and self.places.keys() <= {BRANCH, ADDRESS}
                          and sum(self.places[BRANCH]) == sum(one.branches for one in questions)
-                         and sorted(self.places[ADDRESS]) == sorted(addresses))
+                         and self.has_addresses(questions, *READS[cpu]))
+
+    def has_addresses(self, questions, reads, tells, finds):
+        """Returns whether each reference is found and read by addresses at `reads` places, once at each. Where lanes
+        are filled two by turns, one of these places is one of PLACES_OF_PAIRS."""
+        by_turns = sum(one.by_turns() for one in questions)
+        references = sum(one.references() for one in questions)
+        numbers = [references] * (reads - 1) + [references - by_turns] \
+            + [sum(one.expected() for one in questions)] * tells + [sum(one.ahead() for one in questions)] * finds
+        needed, came = Counter(filter(None, numbers)), Counter(self.places[ADDRESS])
+        others = [*(came - needed).elements()]
+        return not needed - came and sum(others) == by_turns and len(others) <= PLACES_OF_PAIRS
 
     def shown(self):
         functions = sorted(set(re.findall(r'^==\d+==    at 0x[0-9A-F]+: (\S+) ', self.log, re.M)))

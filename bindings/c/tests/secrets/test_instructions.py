@@ -50,7 +50,7 @@ PRODUCT = re.compile('v?pmuludq|um(ull|lal)2?')
 # The other instructions, with how many there are: divisions by numbers of the settings. Those of the last three yield
 # the lane that a word selects, which the next reference's address reveals anyhow.
 DIVIDING = {'accepted_context': 1, 'proved_argon2_memory_len': 1, 'fill_independent': 2, 'fill_dependent': 1,
-            'expect_dependent': 1}
+            'expected_reference': 1}
 # A generic function's name ends like this. A build's calls begin like this in the archive, which has all builds.
 GENERIC = re.compile(r'::<#\w+>$')
 OF_BUILD = re.compile(r'^proved_(?:x86_64_v\d|armv8_a(?:_neon)?)_')
