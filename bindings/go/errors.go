@@ -8,7 +8,6 @@ type Error uint32
 
 // The errors of the library, with their reasons.
 const (
-	// errors, by .ci/pages/presets
 	ErrOutputTooShort   Error = 1   // the hash is shorter than 4 bytes
 	ErrOutputTooLong    Error = 2   // the hash is longer than 2^32 - 1 bytes
 	ErrPwdTooShort      Error = 3   // never returned
@@ -33,7 +32,6 @@ const (
 	ErrTooCostly        Error = 69  // the encoded hash is above the limits
 	ErrNoRandomBytes    Error = 129 // the system had no random bytes for a salt
 	ErrOldProcessor     Error = 131 // the library has no build for this processor
-	// end
 )
 
 // Errors of this package.

@@ -47,8 +47,8 @@ func ExampleHasher() {
 
 func ExamplePeppers() {
 	stored := argon2.Stored{
-		PepperID: "2025",
-		Encoded:  "$argon2id$v=19$m=7168,t=5,p=1$XFp1Mkqf7MSpiUbZ2Xrhaw$wONd9kNFUla5QhuMuvIaClFh1tuxhQ8kv34GfQuqlEs",
+		KeyID:   "2025",
+		Encoded: "$argon2id$v=19$m=7168,t=5,p=1$XFp1Mkqf7MSpiUbZ2Xrhaw$wONd9kNFUla5QhuMuvIaClFh1tuxhQ8kv34GfQuqlEs",
 	}
 	hasher, err := argon2.NewHasher(argon2.OWASP5(), 1, 16)
 	if err != nil {
@@ -60,8 +60,8 @@ func ExamplePeppers() {
 		panic(err)
 	}
 	matches, updated, err := peppers.VerifyAndUpdate(context.Background(), stored, []byte("correct horse"))
-	fmt.Println(matches, updated.PepperID, err)
-	stored.PepperID = ""
+	fmt.Println(matches, updated.KeyID, err)
+	stored.KeyID = ""
 	_, _, err = peppers.VerifyAndUpdate(context.Background(), stored, []byte("correct horse"))
 	fmt.Println(errors.Is(err, argon2.ErrUnknownPepper))
 	// Output:

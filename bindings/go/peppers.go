@@ -17,8 +17,8 @@ func (p Pepper) Format(state fmt.State, _ rune) { fmt.Fprintf(state, "{ID:%q}", 
 
 // Stored is what you store for a user: an encoded hash, and the ID of its pepper, which is empty without a pepper.
 type Stored struct {
-	PepperID string
-	Encoded  string
+	KeyID   string
+	Encoded string
 }
 
 // Peppers hash with the newest pepper, and verify with the one that the stored hash names. See [NewPeppers].
@@ -75,7 +75,7 @@ func (p *Peppers) Hash(ctx context.Context, password []byte) (Stored, error) {
 func (p *Peppers) VerifyAndUpdate(ctx context.Context, stored Stored, password []byte) (
 	matches bool, updated *Stored, err error) {
 	for i, pepper := range p.peppers {
-		if pepper.ID == stored.PepperID {
+		if pepper.ID == stored.KeyID {
 			old := pepper
 			if i == 0 {
 				old = nil

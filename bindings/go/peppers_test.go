@@ -45,7 +45,7 @@ func TestPeppersRenewHashes(t *testing.T) {
 		}
 		if updated != nil {
 			again, none, err := c.peppers.VerifyAndUpdate(ctx, *updated, password)
-			if updated.PepperID != "2026" || !again || none != nil || err != nil {
+			if updated.KeyID != "2026" || !again || none != nil || err != nil {
 				t.Error(i, updated, again, none, err)
 			}
 		}

@@ -1,5 +1,5 @@
 """Tests of the module for Go: its own tests on each system, what it returns for each number of the library, the package
-that its users unpack, x/crypto's tests, and a service."""
+that its users unpack, and the logins of a service."""
 import os
 import pathlib
 import re
@@ -7,54 +7,13 @@ import shutil
 import subprocess
 
 import pytest
-from running import CC, CODES, HEADER, MACHINE, NUMBERS, TOP, VERSION, built, is_without_kernels
-from running import linked_without_kernels, needs, refuses, run, start
+from running import CC, CODES, HEADER, MACHINE, NUMBERS, TOP, VERSION, built, needs, refuses, run, start
 
 MODULE, DATA = TOP / "bindings/go", TOP / "bindings/go/tests/testdata"
 NAME = re.search("^module (.*)$", (MODULE / "go.mod").read_text(), re.M)[1]
 PAGE = (TOP / "docs/GO.md").read_text()
-# Debian's source of x/crypto, and of what that imports.
-SOURCES = "/usr/share/gocode/src/golang.org/x"
 ARCH = {"x86_64": "amd64", "aarch64": "arm64"}[MACHINE]
 LINKED = "-ldflags", "-linkmode external -extldflags -static"
-# x/crypto's tests call these functions beside its public ones.
-OF_X_CRYPTO = """package argon2
-
-const (
-    argon2d = iota
-    argon2i
-    argon2id
-)
-
-var useSSE4 = true
-
-func deriveKey(v int, pwd, salt, secret, data []byte, time, memory uint32, threads uint8, length uint32) []byte {
-    s := Settings{Variant: Variant(v), Version: Version, Memory: memory, Time: time, Lanes: uint32(threads),
-        HashLength: length, Secret: secret, Data: data}
-    tag, err := HashRaw(pwd, salt, s)
-    if err != nil {
-        panic(err)
-    }
-    return tag
-}
-"""
-# Denies the threads of the library, which have a smaller stack than those of Go.
-DENYING = """#define _GNU_SOURCE
-#include <dlfcn.h>
-#include <errno.h>
-#include <pthread.h>
-#include <unistd.h>
-int pthread_create(pthread_t *thread, const pthread_attr_t *attributes, void *(*start)(void *), void *argument)
-{
-    size_t size = 0;
-    if (attributes != NULL && pthread_attr_getstacksize(attributes, &size) == 0 && size < 1 << 20) {
-        (void)!write(2, "denied\\n", 7);
-        return EAGAIN;
-    }
-    int (*create)(pthread_t *, const pthread_attr_t *, void *(*)(void *), void *) = dlsym(RTLD_NEXT, "pthread_create");
-    return create(thread, attributes, start, argument);
-}
-"""
 # Makes each call with a password of which there is no other copy, and waits.
 SECRETIVE = """package main
 
@@ -173,33 +132,10 @@ def test_the_tests_of_the_module_pass(module, env, drawn, words, more):
     assert len(re.findall("^--- PASS", said, re.M)) == len(re.findall("^=== RUN", said, re.M)) > 20
 
 
-def test_a_program_links_the_library_without_kernels(env, tmp_path):
-    module = copy_module(tmp_path, linked_without_kernels(tmp_path / "linked") / "libproved_argon2.a")
-    run("go", "test", "-c", "-o", tmp_path / "program", cwd=module, env=env)
-    assert is_without_kernels(tmp_path / "program")
-    run(tmp_path / "program", "-test.run", "^Example$", cwd=module)
-
-
-@pytest.mark.parametrize("build", ["x86-64-v2", "none"])
-def test_the_build_is_chosen_for_the_processor(module, env, build):
-    """Calls return an error if there is no build, and the example prints it."""
-    done = start("go", "test", "-count=1", "-run", "^Example$", cwd=module, env={**env, "PROVED_ARGON2_CPU": build})
-    assert (done.returncode == 0) == (build != "none") and ("is too old" in done.stdout) == (build == "none"), done
-
-
 def test_without_cgo_the_build_says_why(module, env):
     why = 'cannot use "argon2 needs cgo and a C compiler: set CGO_ENABLED=1 and CC"'
     refuses(1 if "go1.2" in run("go", "version") else 2, why, "go", "build", "./...", cwd=module,
             env={**env, "CGO_ENABLED": 0})
-
-
-def test_threads_that_are_denied_change_no_hash(module, env, drawn, tmp_path):
-    (tmp_path / "denying.c").write_text(DENYING)
-    run(CC, "-shared", "-fPIC", tmp_path / "denying.c", "-o", tmp_path / "denying.so", "-ldl")
-    run("go", "test", "-c", "-o", tmp_path / "tests", cwd=module, env=env)
-    done = start(tmp_path / "tests", "-test.count=1", cwd=module,
-                 env={**drawn, "LD_PRELOAD": tmp_path / "denying.so"})
-    assert done.returncode == 0 and "denied" in done.stderr, done.stdout
 
 
 # ---- each number of the library, over the stubs of codes.c
@@ -273,46 +209,11 @@ def test_a_login_of_an_unknown_user_is_the_librarys_call(ask, caller, buffer, pr
 
 # ---- programs
 
-def x_crypto(folder):
-    """Debian's source of x/crypto as modules, and the lines of go.mod that name them."""
-    lines = ""
-    for name in ("crypto", "sys"):
-        shutil.copytree(f"{SOURCES}/{name}", folder / name)
-        (folder / name / "go.mod").write_text(f"module golang.org/x/{name}\n")
-        lines += f"\nrequire golang.org/x/{name} v0.0.0\n\nreplace golang.org/x/{name} => {folder / name}\n"
-    return lines
-
-
-needs_x_crypto = pytest.mark.skipif(not os.path.exists(f"{SOURCES}/crypto"), reason="there is no source of x/crypto")
-
-
-@needs_x_crypto
-def test_the_tests_of_x_crypto_pass(env, tmp_path):
-    """They are those of Debian's package, unchanged."""
-    module = copy_module(tmp_path)
-    for file in module.glob("*_test.go"):
-        file.unlink()
-    shutil.copy(f"{SOURCES}/crypto/argon2/argon2_test.go", module)
-    code = (module / "argon2.go").read_text()
-    (module / "argon2.go").write_text(re.sub(r"\bderiveKey\b", "derive", code))
-    (module / "of_x_crypto.go").write_text(OF_X_CRYPTO)
-    said = run("go", "test", "-count=1", "-v", ".", cwd=module, env=env)
-    assert {*re.findall(r"^--- PASS: (\w+)", said, re.M)} == {"TestArgon2", "TestVectors"}
-
-
-@needs_x_crypto
-def test_random_keys_are_those_of_x_crypto(module, env, tmp_path):
-    folder = program(tmp_path / "fuzz", module, DATA / "fuzz_test.go", more=x_crypto(tmp_path))
-    run("go", "vet", ".", cwd=folder, env=env)
-    assert "PASS" in run("go", "test", "-fuzz", ".", "-fuzztime", "10s", "-parallel", "2", cwd=folder, env=env)
-
-
-@pytest.mark.parametrize("words", [(), ("-race",)])
-def test_a_service_serves_more_logins_than_it_computes(module, env, tmp_path, words):
-    folder = program(tmp_path / "service", module, DATA / "service_test.go", TOP / "docs/examples/log_in.go")
+def test_the_logins_of_a_service(module, env, tmp_path):
+    folder = program(tmp_path / "logins", module, DATA / "logins_test.go", TOP / "docs/examples/log_in.go")
     (folder / "main.go").write_text("package main\n\nfunc main() {}\n")
     run("go", "vet", ".", cwd=folder, env=env)
-    run("go", "test", "-count=1", *words, ".", cwd=folder, env=env)
+    run("go", "test", "-count=1", ".", cwd=folder, env=env)
 
 
 def test_no_copy_of_a_password_or_a_pepper_is_left(module, env, tmp_path):
@@ -365,7 +266,7 @@ def test_the_tests_pass_on_arm64(module, env, drawn, tmp_path):
     """Those that measure are left out, since qemu itself takes time and memory."""
     run("go", "test", "-c", *LINKED, "-o", tmp_path / "tests", cwd=module,
         env={**env, "CC": "aarch64-linux-gnu-gcc", "GOARCH": "arm64"})
-    chosen = "HashesEqual|EncodedHashes|Example$|IDKey|Peppers|EveryError|CallersCompute"
+    chosen = "HashesEqual|EncodedHashes|Example$|IDKey|Peppers|SettingsAreChecked|CallersCompute"
     run("qemu-aarch64-static", tmp_path / "tests", "-test.run", chosen, cwd=module, env=drawn)
 
 
@@ -465,5 +366,5 @@ def test_the_tests_pass_where_there_is_no_archive(module_in_c, env, tmp_path):
     """Some tests run on RISC-V. The others measure or, under qemu, take long."""
     run("go", "test", "-c", *LINKED, "-o", tmp_path / "tests", cwd=module_in_c,
         env={**env, "CC": "riscv64-linux-gnu-gcc", "GOARCH": "riscv64"})
-    run("qemu-riscv64-static", tmp_path / "tests", "-test.run", "Example|EncodedHashes|EveryError|Peppers",
+    run("qemu-riscv64-static", tmp_path / "tests", "-test.run", "Example|EncodedHashes|SettingsAreChecked|Peppers",
         cwd=module_in_c)
