@@ -31,33 +31,20 @@ JNIEXPORT jstring JNICALL Java_proved_argon2_CodesTest_seen(JNIEnv *env, jclass 
     return class == NULL ? NULL : (*env)->NewStringUTF(env, seen());
 }
 """
-# Denies what the name of a file in $DENIED says: `threads`, or `memory` (16 MiB or more).
+# Denies threads while there is a file `threads` in $DENIED.
 DENYING = """#define _GNU_SOURCE
 #include <dlfcn.h>
 #include <errno.h>
 #include <pthread.h>
 #include <stdio.h>
 #include <stdlib.h>
-#include <sys/mman.h>
 #include <unistd.h>
-static int is_denied(const char *name)
-{
-    char path[4096];
-    snprintf(path, sizeof path, "%s/%s", getenv("DENIED"), name);
-    return access(path, F_OK) == 0;
-}
-void *mmap(void *at, size_t length, int rights, int flags, int file, off_t offset)
-{
-    __typeof__(mmap) *const own = (__typeof__(mmap) *)dlsym(RTLD_NEXT, "mmap");
-    if (length < 16 << 20 || rights == PROT_NONE || !is_denied("memory"))
-        return own(at, length, rights, flags, file, offset);
-    errno = ENOMEM;
-    return MAP_FAILED;
-}
 int pthread_create(pthread_t *thread, const pthread_attr_t *with, void *(*call)(void *), void *arg)
 {
     __typeof__(pthread_create) *const own = (__typeof__(pthread_create) *)dlsym(RTLD_NEXT, "pthread_create");
-    return is_denied("threads") ? EAGAIN : own(thread, with, call, arg);
+    char path[4096];
+    snprintf(path, sizeof path, "%s/threads", getenv("DENIED"));
+    return access(path, F_OK) == 0 ? EAGAIN : own(thread, with, call, arg);
 }
 """
 # A copy of Spring's interface, and the adapter of the page.
@@ -127,7 +114,7 @@ def passes(count, *words, **named):
 
 
 USUAL = "--exclude-tag", "codes", "--exclude-tag", "denied"
-COUNT = 65  # of its own tests, of which one asks for 2 TiB
+COUNT = 62  # of its own tests, of which one asks for 2 TiB
 
 
 def test_its_own_tests_pass_in_java_17(jar, classes, drawn):
@@ -173,7 +160,7 @@ def test_its_own_tests_pass_with_a_library_compiled_from_the_jar_of_sources(clas
     macOS's headers, make it."""
     jar, program = pack(tmp_path / "proved-argon2-x.jar"), write_program(tmp_path)
     library, = re.findall(r"the jar has no (\S+)\. Compile it", start("java", "-cp", jar, program).stderr)
-    commands, = re.findall(r"^    (unzip \S*-sources.jar (?:.*\n)+?)\n", (TOP / "docs/JAVA.md").read_text(), re.M)
+    commands, = re.findall(r"^    (unzip \S*-sources.jar (?:.*\n)+?)\n", (TOP / "docs/INSTALL.md").read_text(), re.M)
     for old, new in ((r"proved-argon2\S*-sources", f"{jar.stem}-sources"), ("include/darwin", "include/linux"),
                      ("-o .*", f"-o {library}")):
         commands, count = re.subn(old, new, commands)
@@ -204,10 +191,10 @@ def headers():
     return include, include / "linux"
 
 
-def test_denied_memory_and_threads(jar, classes, drawn, tmp_path):
+def test_denied_threads(jar, classes, drawn, tmp_path):
     (tmp_path / "denying.c").write_text(DENYING)
     run(CC, "-shared", "-fPIC", "-Wall", "-Wextra", "-Werror", tmp_path / "denying.c", "-o", tmp_path / "denying.so")
-    passes(4, "java", *words_of(jar, classes, drawn, "--include-tag", "denied"),
+    passes(3, "java", *words_of(jar, classes, drawn, "--include-tag", "denied"),
            env={"LD_PRELOAD": tmp_path / "denying.so", "DENIED": tmp_path})
 
 
@@ -235,17 +222,16 @@ def test_an_encoder_for_spring_is_one_line(jar, tmp_path):
     assert run("java", "-cp", f"{jar}:{tmp_path}", "Program") == "true false true\n"
 
 
-def test_the_service(jar, tmp_path):
-    """More clients log in at once than there are places, and some of them leave."""
-    run("javac", *LINT, "-cp", jar, "-d", tmp_path, TOP / "docs/examples/LogIn.java", JAVA / "tests/Service.java")
-    serves("java", "-Xmx64m", "-cp", f"{jar}:{tmp_path}", "Service", env={"PEPPER": "pepper"}, timeout=300)
+def test_the_logins_of_a_service(jar, tmp_path):
+    run("javac", *LINT, "-cp", jar, "-d", tmp_path, TOP / "docs/examples/LogIn.java", JAVA / "tests/Logins.java")
+    serves("java", "-cp", f"{jar}:{tmp_path}", "Logins", env={"PEPPER": "pepper"}, timeout=300)
 
 
 @pytest.mark.parametrize("compiler, machine, name, words", [
     pytest.param("musl-gcc", MACHINE, f"linux-{MACHINE}.so", [], marks=needs("musl-gcc"), id="musl"),
     pytest.param("x86_64-w64-mingw32-gcc-posix", "windows-x86_64", "windows-x86_64.dll", ["wine"], id="windows",
                  marks=needs("x86_64-w64-mingw32-gcc-posix", "wine"))])
-def test_the_native_calls_hash_and_verify_where_no_java_runs(tmp_path, compiler, machine, name, words):
+def test_the_native_calls_verify_where_no_java_runs(tmp_path, compiler, machine, name, words):
     jar, program = tmp_path / "proved-argon2.jar", tmp_path / "native_calls.exe"
     include = [f"-I{folder}" for folder in headers()]
     pack(jar, TOP / "release" / machine)

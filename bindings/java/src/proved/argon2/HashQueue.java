@@ -44,7 +44,7 @@ public final class HashQueue implements AutoCloseable {
     /** The library's kept buffers for hashes with these settings. */
     private final Map<Settings, Long> buffers = new ConcurrentHashMap<>();
     /** Wakes the threads of a closed queue, each of which puts it back for the next one. */
-    private final Task<?> end = new Task<>(null, null);
+    private final Task<?> end = new Task<>(null);
     private volatile boolean isClosed;
 
     /**
@@ -85,36 +85,44 @@ public final class HashQueue implements AutoCloseable {
      * Makes a call in a thread of the queue. Cancelling the future takes the call out of the queue, or stops its hash
      * after the current slice; so does completing it in another way, as {@code orTimeout} does. Run what depends on the
      * future in other threads, as {@code thenAcceptAsync} does. Leave the password as it is until the future is done.
-     * If no more calls may wait, the future has failed with {@link Reason#BUSY}.
+     * If no more calls may wait, the future has failed with {@link Reason#BUSY}. Do not wait for the future within a
+     * call of the queue: if the calls in all places wait in this way, they wait for ever.
      *
      * @param <T> the type of the result
      * @param call the call, which runs in a thread of the queue
      * @return the future of what the call returns or throws
      */
     public <T> CompletableFuture<T> submit(Supplier<T> call) {
-        return enqueue(new Task<>(call, null));
+        if (isClosed || !hasPlace()) {
+            return CompletableFuture.failedFuture(new Argon2Exception(Reason.BUSY));
+        }
+        Task<T> task = new Task<>(call);
+        tasks.add(task);
+        waiting.add(task);
+        task.whenComplete((value, error) -> leave(task));
+        if (startable.tryAcquire()) {
+            startThread();
+        }
+        if (isClosed) { // close() may not have seen the call
+            task.cancel(true);
+        }
+        return task;
     }
 
     /**
      * Does what {@link #submit} does, and waits for what the call returns or throws. Interrupting the caller cancels
-     * the call. Throws {@link Reason#STOPPED} if the queue is closed meanwhile. Within a call of this queue, also if
-     * that waits for a call in another queue, the call is made at once, in the place that there is.
+     * the call. Throws {@link Reason#STOPPED} if the queue is closed meanwhile. In a thread of any queue, the call is
+     * made at once, in that thread: if it waited for a place, two calls could wait for each other.
      *
      * @param <T> the type of the result
      * @param call the call, which runs in a thread of the queue
      * @return what the call returns
      */
     public <T> T run(Supplier<T> call) {
-        Task<?> outer = Thread.currentThread() instanceof Worker worker ? worker.task : null;
-        for (Task<?> task = outer; task != null; task = task.outer) {
-            if (task.queue() == this) {
-                return call.get(); // waiting for another place of the queue could be a deadlock
-            }
+        if (Thread.currentThread() instanceof Worker) {
+            return call.get();
         }
-        CompletableFuture<T> future = enqueue(new Task<>(call, outer));
-        if (stop() != null) {
-            outer.whenComplete((value, error) -> future.cancel(true));
-        }
+        CompletableFuture<T> future = submit(call);
         try {
             return future.get();
         } catch (InterruptedException interruption) {
@@ -149,7 +157,7 @@ public final class HashQueue implements AutoCloseable {
 
     /** The kept buffers for a hash in this thread, or 0: then it allocates its own memory. */
     static long buffersFor(Settings settings) {
-        return Thread.currentThread() instanceof Worker worker ? worker.task.queue().buffers(settings) : Native.NONE;
+        return Thread.currentThread() instanceof Worker worker ? worker.queue().buffers(settings) : Native.NONE;
     }
 
     private long buffers(Settings settings) {
@@ -162,22 +170,6 @@ public final class HashQueue implements AutoCloseable {
         if (isClosed && startable.tryAcquire(concurrency)) {
             buffers.values().forEach(Native::freeBuffers);
         }
-    }
-
-    private <T> CompletableFuture<T> enqueue(Task<T> task) {
-        if (isClosed || !hasPlace()) {
-            return CompletableFuture.failedFuture(new Argon2Exception(Reason.BUSY));
-        }
-        tasks.add(task);
-        waiting.add(task);
-        task.whenComplete((value, error) -> leave(task));
-        if (startable.tryAcquire()) {
-            startThread();
-        }
-        if (isClosed) { // close() may not have seen the call
-            task.cancel(true);
-        }
-        return task;
     }
 
     /**
@@ -218,16 +210,9 @@ public final class HashQueue implements AutoCloseable {
     private final class Task<T> extends CompletableFuture<T> {
         /** Null once it was made or left the queue: it may refer to a password. */
         private Supplier<T> call;
-        /** The call in whose thread somebody waits for this one, in another queue, or null. */
-        private final Task<?> outer;
 
-        private Task(Supplier<T> call, Task<?> outer) {
+        private Task(Supplier<T> call) {
             this.call = call;
-            this.outer = outer;
-        }
-
-        private HashQueue queue() {
-            return HashQueue.this;
         }
 
         /** Makes the call. Its place is free before anybody hears of its end. */
@@ -268,6 +253,10 @@ public final class HashQueue implements AutoCloseable {
         private Worker() {
             super(null, null, "argon2 queue", 0, false);
             setDaemon(true);
+        }
+
+        private HashQueue queue() {
+            return HashQueue.this;
         }
 
         /** Makes calls, also those that were added after it had waited for long enough. */

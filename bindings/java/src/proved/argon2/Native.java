@@ -28,7 +28,7 @@ final class Native {
 
     /** What to do if there is no library for this system. */
     private static final String MISSING = "the jar has no proved/argon2/native/%s. Compile it from the C code in the "
-        + "jar of sources (docs/JAVA.md), and name it with -D" + PROPERTY + "=FILE";
+        + "jar of sources (docs/INSTALL.md), and name it with -D" + PROPERTY + "=FILE";
 
     /** What to do if a library cannot be loaded, and why it cannot. */
     private static final String REMEDIES = "%s cannot be loaded: %s. If temporary folders are read-only or mounted "

@@ -30,10 +30,10 @@ public final class Peppers {
     /**
      * What to store for a user.
      *
-     * @param id the ID of the pepper
-     * @param hash the encoded hash
+     * @param keyId the ID of the pepper
+     * @param encoded the encoded hash
      */
-    public record Stored(String id, String hash) {}
+    public record Stored(String keyId, String encoded) {}
 
     /**
      * Peppers for a hasher. Wrong ones throw {@link Reason#INVALID_PEPPERS}.

@@ -1,20 +1,15 @@
 package proved.argon2;
 
-import java.io.IOException;
-import java.nio.file.Files;
-import java.nio.file.Path;
 import java.time.Duration;
 import java.util.Optional;
-import java.util.OptionalDouble;
 
 /**
  * Settings that {@link #tune} found.
  *
  * @param settings the settings
  * @param milliseconds the time of a hash, the least of several
- * @param load the load average of the last minute, if Linux reports it. Other programs slow hashes down
  */
-public record Tuning(Settings settings, double milliseconds, OptionalDouble load) {
+public record Tuning(Settings settings, double milliseconds) {
     /** What {@link Native#tune} writes: the memory, the passes, and the time of a hash. */
     private static final int FOUND = 3;
 
@@ -40,14 +35,6 @@ public record Tuning(Settings settings, double milliseconds, OptionalDouble load
             throw Argon2Exception.of(number);
         }
         Settings settings = most.withMemory((int) found[0]).withPasses((int) found[1]);
-        return Optional.of(new Tuning(settings, found[2] / 1e6, loadOfMachine()));
-    }
-
-    private static OptionalDouble loadOfMachine() {
-        try {
-            return OptionalDouble.of(Double.parseDouble(Files.readString(Path.of("/proc/loadavg")).split(" ")[0]));
-        } catch (IOException none) {
-            return OptionalDouble.empty();
-        }
+        return Optional.of(new Tuning(settings, found[2] / 1e6));
     }
 }

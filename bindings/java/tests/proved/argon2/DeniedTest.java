@@ -13,7 +13,7 @@ import java.util.concurrent.*;
 import java.util.concurrent.atomic.AtomicInteger;
 import org.junit.jupiter.api.*;
 
-/** While a file {@code memory} or {@code threads} exists, that is denied. */
+/** While a file {@code threads} exists, threads are denied. */
 @Tag("denied")
 @Timeout(60)
 class DeniedTest {
@@ -22,8 +22,8 @@ class DeniedTest {
     private final HashQueue queue = new HashQueue(2, 4);
     private final String stored = hasher.hash(new byte[0]);
 
-    private static Path deny(String name) throws IOException {
-        return Files.createFile(FOLDER.resolve(name));
+    private static Path deny() throws IOException {
+        return Files.createFile(FOLDER.resolve("threads"));
     }
 
     @AfterEach
@@ -33,26 +33,15 @@ class DeniedTest {
     }
 
     @Test
-    void withoutMemoryACallFailsAndItsPlaceIsFree() throws IOException {
-        Path denied = deny("memory");
-        for (int call = 0; call < 7; call++) {
-            assertFails(OUT_OF_MEMORY, () -> queue.run(() -> hasher.hash(new byte[0])));
-        }
-        assertFails(OUT_OF_MEMORY, () -> hasher.verify(stored, new byte[0]));
-        Files.delete(denied);
-        assertTrue(queue.run(() -> hasher.verify(stored, new byte[0])));
-    }
-
-    @Test
     void withoutThreadsCallsWaitForThoseThatThereAre() throws IOException {
-        Path denied = deny("threads");
+        Path denied = deny();
         for (int call = 0; call < 7; call++) {
             assertTrue(isBusy(queue.submit(() -> "")));
         }
         assertTrue(hasher.verify(stored, new byte[0])); // one thread fills all lanes
         Files.delete(denied);
         assertTrue(queue.run(() -> hasher.verify(stored, new byte[0])));
-        deny("threads");
+        deny();
         CompletableFuture<String> first = queue.submit(() -> ENDLESS.hash(new byte[0]));
         CompletableFuture<Boolean> second = queue.submit(() -> hasher.verify(stored, new byte[0]));
         assertFalse(second.isDone());
@@ -70,7 +59,7 @@ class DeniedTest {
         List<CompletableFuture<Integer>> results = new ArrayList<>();
         HashQueue fresh = new HashQueue(2, 1000, Duration.ZERO);
         for (int round = 0; round < 200; round++) {
-            Path denied = deny("threads");
+            Path denied = deny();
             for (int call = 0; call < 3; call++) {
                 results.add(fresh.submit(made::incrementAndGet));
             }
@@ -99,7 +88,7 @@ class DeniedTest {
                 start.await();
                 return assertThrows(Argon2Exception.class, () -> fresh.run(() -> ""));
             };
-            Path denied = deny("threads");
+            Path denied = deny();
             for (Future<Argon2Exception> error : callers.invokeAll(Collections.nCopies(count, call))) {
                 assertEquals(BUSY, error.get().reason());
             }

@@ -142,42 +142,26 @@ class HashQueueTest {
         assertHasBothPlaces();
     }
 
+    /** The queues have one place each: a call waits in neither of them for itself, also in a callback. */
     @Test
-    void aCancelledCallStopsItsCallInAnotherQueue() throws InterruptedException {
-        CompletableFuture<Boolean> hasBegun = new CompletableFuture<>();
+    void aCallWithinACallIsMadeInItsThread() throws InterruptedException {
         try (HashQueue other = new HashQueue(1, 0)) {
-            CompletableFuture<String> outer = queue.submit(() -> other.run(() -> {
+            Supplier<Thread> circle = () -> other.run(() -> queue.run(() -> other.run(Thread::currentThread)));
+            Thread own = soon(queue.submit(Thread::currentThread));
+            assertEquals(own, soon(queue.submit(circle)));
+            CompletableFuture<String> first = submitHeld(() -> "first");
+            CompletableFuture<Thread> next = first.thenApply(value -> circle.get());
+            isWatched.complete(null);
+            assertEquals(own, soon(next));
+            CompletableFuture<Boolean> hasBegun = new CompletableFuture<>();
+            CompletableFuture<String> stopped = queue.submit(() -> other.run(() -> {
                 hasBegun.complete(true);
                 return ENDLESS_HASH.get();
             }));
             soon(hasBegun);
-            outer.cancel(true);
-            assertEquals("free", soon(onceThereIsPlace(other, () -> "free")));
+            stopped.cancel(true);
         }
         assertHasBothPlaces();
-    }
-
-    @Test
-    void aCallCanRunAnotherInItsPlace() {
-        assertEquals("inner", soon(queue.submit(() -> queue.run(() -> queue.run(() -> "inner")))));
-        try (HashQueue other = new HashQueue(1, 0)) {
-            Thread own = soon(queue.submit(Thread::currentThread));
-            assertEquals(own, soon(queue.submit(() -> queue.run(Thread::currentThread))));
-            assertNotEquals(own, soon(queue.submit(() -> other.run(Thread::currentThread))));
-        }
-    }
-
-    /** Two queues of one place each: a call waits in neither of them for itself, also in a callback. */
-    @Test
-    void queuesThatCallEachOtherInACircleGoOn() {
-        try (HashQueue other = new HashQueue(1, 0)) {
-            Supplier<String> circle = () -> other.run(() -> queue.run(() -> other.run(() -> "inner")));
-            assertEquals("inner", soon(queue.submit(circle)));
-            CompletableFuture<String> first = submitHeld(() -> "first");
-            CompletableFuture<String> next = first.thenApply(value -> circle.get());
-            isWatched.complete(null);
-            assertEquals("inner", soon(next));
-        }
     }
 
     /** Callbacks run after the call's end: the place is free, and no hash is stopped. */
@@ -235,13 +219,6 @@ class HashQueueTest {
         try (HashQueue other = new HashQueue(1, 0, Duration.ofMinutes(5))) {
             assertForgotten(new WeakReference<>(other.run(() -> new byte[8])));
             assertEquals(1, threads());
-        }
-    }
-
-    @Test
-    void aLockOfTheUserDoesNotBlockTheQueue() {
-        synchronized (queue) {
-            assertEquals("", soon(CompletableFuture.supplyAsync(() -> queue.run(() -> ""))));
         }
     }
 

@@ -20,21 +20,22 @@ class PeppersTest {
     @Test
     void aHashHasTheNewestPepper() {
         Stored stored = peppers.hash(PASSWORD);
-        assertEquals("2026", stored.id());
-        assertTrue(hasher.withPepper(newer.key()).verify(stored.hash(), PASSWORD));
-        assertFalse(hasher.verify(stored.hash(), PASSWORD));
-        assertEquals(new Verdict<>(true, Optional.empty()), peppers.verifyAndUpdate("2026", stored.hash(), PASSWORD));
+        assertEquals("2026", stored.keyId());
+        assertTrue(hasher.withPepper(newer.key()).verify(stored.encoded(), PASSWORD));
+        assertFalse(hasher.verify(stored.encoded(), PASSWORD));
+        assertEquals(
+            new Verdict<>(true, Optional.empty()), peppers.verifyAndUpdate("2026", stored.encoded(), PASSWORD));
         assertFalse(peppers.verifyUnknown(PASSWORD));
     }
 
     @Test
     void anOlderPepperIsReplaced() {
         Stored stored = new Peppers(hasher, older).hash(PASSWORD);
-        Verdict<Stored> verdict = peppers.verifyAndUpdate(stored.id(), stored.hash(), PASSWORD);
-        assertTrue(verdict.matches() && verdict.update().orElseThrow().id().equals("2026"));
-        assertTrue(peppers.verifyAndUpdate("2026", verdict.update().get().hash(), PASSWORD).matches());
-        assertEquals(new Verdict<>(false, Optional.empty()), peppers.verifyAndUpdate("2025", stored.hash(), WRONG));
-        assertFalse(peppers.verifyAndUpdate("2026", stored.hash(), PASSWORD).matches());
+        Verdict<Stored> verdict = peppers.verifyAndUpdate(stored.keyId(), stored.encoded(), PASSWORD);
+        assertTrue(verdict.matches() && verdict.update().orElseThrow().keyId().equals("2026"));
+        assertTrue(peppers.verifyAndUpdate("2026", verdict.update().get().encoded(), PASSWORD).matches());
+        assertEquals(new Verdict<>(false, Optional.empty()), peppers.verifyAndUpdate("2025", stored.encoded(), WRONG));
+        assertFalse(peppers.verifyAndUpdate("2026", stored.encoded(), PASSWORD).matches());
     }
 
     @Test
@@ -44,7 +45,7 @@ class PeppersTest {
             assertFails(UNKNOWN_PEPPER, () -> peppers.verifyAndUpdate(id, bare, PASSWORD));
         }
         Verdict<Stored> verdict = peppers.acceptUnpeppered().verifyAndUpdate(null, bare, PASSWORD);
-        assertTrue(verdict.matches() && verdict.update().orElseThrow().id().equals("2026"));
+        assertTrue(verdict.matches() && verdict.update().orElseThrow().keyId().equals("2026"));
         assertFalse(peppers.acceptUnpeppered().verifyAndUpdate(null, bare, WRONG).matches());
         assertFails(UNKNOWN_PEPPER, () -> peppers.acceptUnpeppered().verifyAndUpdate("2024", bare, PASSWORD));
     }

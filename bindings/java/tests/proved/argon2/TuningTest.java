@@ -14,7 +14,7 @@ class TuningTest {
         for (Duration within : new Duration[] {Duration.ofSeconds(60), Duration.ofSeconds(Long.MAX_VALUE)}) {
             Tuning found = Tuning.tune(within, MOST).orElseThrow();
             assertEquals(MOST.withPasses(Limits.DEFAULT.passes()), found.settings());
-            assertTrue(found.milliseconds() > 0 && found.milliseconds() < 60_000 && found.load().isPresent());
+            assertTrue(found.milliseconds() > 0 && found.milliseconds() < 60_000);
         }
         assertTrue(Tuning.tune(Duration.ZERO, MOST).isEmpty());
         assertTrue(Tuning.tune(Duration.ofSeconds(Long.MIN_VALUE), MOST).isEmpty());
