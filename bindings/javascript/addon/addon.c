@@ -178,20 +178,22 @@ static void compute(run *self)
     report_end(self);
 }
 
-/* Waits for a run. Frees the kept memory that has been idle for too long meanwhile. The pool is locked. */
+/* Waits for a run. Frees the kept memory that has been idle for too long meanwhile. The thread counts as idle before it
+ * leaves the lock, so that the next run starts no further thread: with more threads than processors, the system often
+ * wakes one on a processor that computes, while another processor is idle. The pool is locked. */
 static void wait_for_run(void)
 {
+    proved_argon2_buffers *const own = kept;
+    pool.idle++;
     pthread_mutex_unlock(&pool.lock);
-    const uint32_t milliseconds = proved_argon2_buffers_free_idle(kept);
+    const uint32_t milliseconds = proved_argon2_buffers_free_idle(own);
     struct timespec end;
     clock_gettime(CLOCK_MONOTONIC, &end);
     end.tv_sec += milliseconds / 1000 + 1;
     pthread_mutex_lock(&pool.lock);
-    if (pool.first != NULL) return;
-    pool.idle++;
-    if (milliseconds == 0) {
+    if (pool.first == NULL && milliseconds == 0) {
         pthread_cond_wait(&pool.has_run, &pool.lock);
-    } else {
+    } else if (pool.first == NULL) {
         pthread_cond_timedwait(&pool.has_run, &pool.lock, &end);
     }
     pool.idle--;

@@ -214,8 +214,6 @@ export interface Tuning {
     parameters: Required<Settings>;
     /** The milliseconds that a hash takes, the least of several. */
     milliseconds: number;
-    /** The system's load in the last minute, or null in a page. Under load hashes take longer. */
-    load: number | null;
 }
 
 /**

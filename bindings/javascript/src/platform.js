@@ -54,9 +54,6 @@ export function memoryOfSystem() {
         : (navigator?.deviceMemory ?? Infinity) * 2 ** 30;
 }
 
-/** The system's load in the last minute, as Node reports it: on Windows always 0. */
-export const loadOfSystem = () => builtin('os')?.loadavg()[0] ?? null;
-
 /** The name of a file, in Node. */
 export const fileOf = (url) => builtin('url').fileURLToPath(url);
 

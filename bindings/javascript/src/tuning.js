@@ -2,7 +2,6 @@
 import { allocate } from './bytes.js';
 import { callInLine, hash, searchByAddon } from './calls.js';
 import { DEFAULTS, defaultLimits } from './options.js';
-import { loadOfSystem } from './platform.js';
 
 /** The least memory and the least work among OWASP's choices. With less, a hash does not protect a password well. */
 const LEAST_MEMORY = 7168;
@@ -25,7 +24,7 @@ export async function tune(milliseconds, options = {}) {
     }
     const costs = found ?? await fittingCosts(milliseconds, memoryCost, measureBy(running, settings));
     const parameters = { ...settings, memoryCost: costs.memory, timeCost: costs.passes };
-    return { parameters, milliseconds: costs.took, load: loadOfSystem() };
+    return { parameters, milliseconds: costs.took };
 }
 
 /** Returns a function that measures a hash with a memory and passes. */

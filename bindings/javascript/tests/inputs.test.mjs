@@ -191,12 +191,3 @@ test('salts are 16 random bytes, new for each hash', async () => {
         assert.ok(set > 0 && set < 200, `bit ${bit} is set in ${set} of 200`);
     }
 });
-
-test('the default settings are those of the library', async () => {
-    const encoded = await argon2.hash('password');
-    assert.match(encoded, /^\$argon2id\$v=19\$m=19456,t=2,p=1\$[A-Za-z0-9+/]{22}\$[A-Za-z0-9+/]{43}$/);
-    assert.equal(await argon2.needsRehash(encoded), false);
-    assert.equal(await argon2.needsRehash(encoded, argon2.presets.owasp2), false);
-    assert.equal(await argon2.needsRehash(encoded, argon2.presets.owasp1), true);
-    assert.equal(await argon2.default.verify(encoded, 'password'), true);
-});

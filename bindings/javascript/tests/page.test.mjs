@@ -6,7 +6,7 @@ import * as argon2 from 'proved-argon2';
 import * as browsers from './browsers.mjs';
 import { hashesOf } from './hashes.mjs';
 
-const { BROWSER, PAGE, RANDOM_HASHES, VECTORS } = process.env;
+const { BROWSER, PAGE, VECTORS } = process.env;
 const { BrowserEnded, [BROWSER]: Browser } = browsers;
 const WORKERS = 8;
 const MIB = 2 ** 20;
@@ -63,14 +63,14 @@ const mixedCalls = (from, to) => `${IMPORTED}
     }
     return true;`;
 
-/** Hashes, computed in the page by at most this many workers. */
-const computedInPage = (hashes, threads) => `${IMPORTED}
+/** Hashes, computed in the page. */
+const computedInPage = (hashes) => `${IMPORTED}
     const bytes = ({ data }) => Uint8Array.from(data);
     const hex = (tag) => [...tag].map((byte) => byte.toString(16).padStart(2, '0')).join('');
     const wrong = [];
     for (const { line, settings, salt, inputs, expected } of ${literal(hashes)}) {
         const [password, secret, associatedData] = Object.values(inputs).map(bytes);
-        const others = { salt: bytes(salt), secret, associatedData, raw: true, threads: ${threads} };
+        const others = { salt: bytes(salt), secret, associatedData, raw: true };
         const tag = await argon2.hash(password, { ...settings, ...others })
             .then(hex, (error) => 'ERR ' + error.message);
         if (tag !== expected) wrong.push([line, tag]);
@@ -123,12 +123,6 @@ class Page {
     }
 }
 
-async function compare(browser, isIsolated, hashes, threads) {
-    const { wrong, isIsolated: found } = await browser.resultOf(computedInPage(hashes, threads));
-    assert.deepEqual(wrong, []);
-    assert.equal(found, isIsolated);
-}
-
 async function takesLittleMemory(browser) {
     const start = browser.memoryInUse();
     let most = 0;
@@ -145,14 +139,8 @@ async function takesLittleMemory(browser) {
 }
 
 async function outsideHashes(browser, isIsolated) {
-    await compare(browser, isIsolated, hashesOf(`${VECTORS}/raw.txt`, 240), WORKERS);
-}
-
-async function randomHashes(browser, isIsolated) {
-    const hashes = hashesOf(RANDOM_HASHES, 800);
-    for (let threads = 1; threads <= WORKERS; threads++) {
-        await compare(browser, isIsolated, hashes.filter((_, i) => i % WORKERS === threads - 1), threads);
-    }
+    const hashes = hashesOf(`${VECTORS}/raw.txt`, 240);
+    assert.deepEqual(await browser.resultOf(computedInPage(hashes)), { wrong: [], isIsolated });
 }
 
 async function namedErrors(browser) {
@@ -232,7 +220,6 @@ async function fits(browser) {
 const TESTS = [
     ['300 calls of several kinds take at most one memory a worker, and an idle browser takes none', takesLittleMemory],
     ['the outside hashes', outsideHashes],
-    ['800 random hashes of libargon2, by 1 to 8 workers', randomHashes],
     ['errors have their names', namedErrors],
     ['a visitor hashes and verifies', visitorHashes],
     ['assistive technology gets what is shown', isHeard],

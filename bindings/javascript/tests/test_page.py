@@ -9,6 +9,6 @@ pytestmark = [has_node(), pytest.mark.timeout(2400)]
 @pytest.mark.parametrize("browser", [
     pytest.param("Chromium", marks=needs("chromium")), pytest.param("Firefox", marks=needs("firefox-esr")),
     pytest.param("WebKit", marks=needs("xvfb-run", MINI_BROWSER))])
-def test_the_page_and_the_package_in_it(site, drawn, browser):
-    named = {"BROWSER": browser, "PAGE": TOP / "docs/demo", "VECTORS": TOP / "bindings/vectors", **drawn}
+def test_the_page_and_the_package_in_it(site, browser):
+    named = {"BROWSER": browser, "PAGE": TOP / "docs/demo", "VECTORS": TOP / "bindings/vectors"}
     run("node", "--test", "--test-reporter=spec", "page.test.mjs", cwd=site, env=named)

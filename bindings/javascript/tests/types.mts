@@ -27,9 +27,9 @@ export async function right(password: string, key: Uint8Array, signal: AbortSign
     new PepperedHasher([['2026', key]], { acceptUnpeppered: true });
     const unknown: false = await verifyUnknown(password, { ...settings, limits });
     const nobody: false = await hasher.verifyUnknown(password) || unknown;
-    const { parameters, milliseconds, load } = await tune(250, { memoryCost: 65536, signal });
+    const { parameters, milliseconds } = await tune(250, { memoryCost: 65536, signal });
     console.log(length, matches, update?.length, peppered.update?.keyId);
-    console.log(parameters.timeCost, milliseconds, load?.toFixed());
+    console.log(parameters.timeCost, milliseconds.toFixed());
     try {
         return verdict && renewed && !nobody && await inline.verify(encoded, key, { limits: null }) && either !== tag;
     } catch (error) {
