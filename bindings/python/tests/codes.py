@@ -30,10 +30,13 @@ HASH, VERIFY = (b"word", b"somesalt", *SETTINGS), (TEXT.encode(), b"word", Type.
 NAMED = {"key": b"key", "associated_data": b"data"}
 LIMITS = Limits(memory_cost=10, time_cost=11, parallelism=12, work=13)
 STORED = Parameters(type=Type.ID, version=19, memory_cost=64, time_cost=3, parallelism=4, hash_len=5, salt_len=6)
+MISMATCH, TOO_COSTLY, NEEDS_REHASH = (HEADER[name] for name in ("MISMATCH", "TOO_COSTLY", "NEEDS_REHASH"))
+VERDICTS = {MISMATCH: errors.VerifyMismatchError, TOO_COSTLY: errors.TooCostlyError}
+INVALID = {HEADER["DECODING_FAIL"]: errors.InvalidHashError, HEADER["NOT_ASCII"]: errors.InvalidHashError,
+           HEADER["OUT_OF_MEMORY"]: MemoryError}
 # The values of the table. Other verdicts than `true` are exceptions that contain the number.
 VALUES = {"tag": b"x" * 5, "text": b"x" * 12, "true": True, "false": errors.VerifyMismatchError,
-          "costly": errors.TooCostlyError, "stored": STORED}
-VERDICTS = {0: True, HEADER["MISMATCH"]: VALUES["false"], HEADER["TOO_COSTLY"]: VALUES["costly"]}
+          "costly": errors.TooCostlyError}
 # A verification asks for this many threads: the library uses one for each lane, and at most 16.
 MOST = 0xFFFFFFFF
 CALLS = {
@@ -43,17 +46,41 @@ CALLS = {
     "verify_encoded_alone": lambda **named: verify_secret(*VERIFY, **named),
     "verify_encoded_within": lambda **named: verify_secret(*VERIFY, **{**NAMED, "limits": LIMITS, **named}),
 }
-HASHERS = [(lambda: PasswordHasher().hash("p"), "x" * 12),
-           (lambda: PasswordHasher(keep_memory=True).hash("p"), "x" * 12),
-           (lambda: hash_password(b"p"), b"x" * 12), (lambda: hash_password_raw(b"p"), b"x" * 32)]
-VERIFIERS = [lambda: PasswordHasher().verify(TEXT, "p"), lambda: PasswordHasher(limits=None).verify(TEXT, "p"),
-             lambda: PasswordHasher(keep_memory=True).verify(TEXT, "p")]
-OLDER_VERIFIER = lambda: verify_password(TEXT.encode(), b"p", Type.ID)  # noqa: E731
-SAME = PasswordHasher.from_parameters(STORED)
-READERS = [(lambda: extract_parameters(TEXT), STORED), (lambda: SAME.check_needs_rehash(TEXT), False),
-           (lambda: PasswordHasher().check_needs_rehash(TEXT), True)]
+UNKNOWN = PasswordHasher(3, 64, 4, 5, 8, type=Type.I, secret=b"key")
+# Other calls: which number the library returns, what they do for which number, and their exception for all others.
+OTHERS = {
+    **{f"hash {place}": ("then", call, {0: value}, errors.HashingError) for place, (call, value) in enumerate((
+        (lambda: PasswordHasher().hash("p"), "x" * 12),
+        (lambda: PasswordHasher(keep_memory=True).hash("p"), "x" * 12),
+        (lambda: hash_password(b"p"), b"x" * 12), (lambda: hash_password_raw(b"p"), b"x" * 32)))},
+    "memory": ("memory", lambda: Memory(64) and 1, {0: 1}, errors.HashingError),
+    # A hash that was made with other settings matches.
+    **{f"verify {place}": (
+        "then", lambda named=named: PasswordHasher(**named).verify(TEXT, "p"),
+        {**VERDICTS, 0: True, NEEDS_REHASH: True}, errors.VerificationError)
+        for place, named in enumerate(({}, {"limits": None}, {"keep_memory": True}))},
+    "older verify": ("then", lambda: verify_password(TEXT.encode(), b"p", Type.ID), {**VERDICTS, 0: True},
+                     errors.VerificationError),
+    "login": ("then", lambda: log_in(),
+              {**VERDICTS, 0: (True, None), MISMATCH: (False, None), NEEDS_REHASH: (True, "y")},
+              errors.VerificationError),
+    # A user who does not exist is never let in.
+    "unknown": ("then", lambda: UNKNOWN.verify_unknown("word"), {MISMATCH: False, TOO_COSTLY: errors.TooCostlyError},
+                errors.VerificationError),
+    "read": ("read", lambda: extract_parameters(TEXT), {**INVALID, 0: STORED}, errors.Argon2Error),
+    "same": ("read", lambda: PasswordHasher.from_parameters(STORED).check_needs_rehash(TEXT), {**INVALID, 0: False},
+             errors.Argon2Error),
+    "other": ("read", lambda: PasswordHasher().check_needs_rehash(TEXT), {**INVALID, 0: True}, errors.Argon2Error),
+    "tune": ("then", lambda: tune(250.5, 8192, 3).parameters,
+             {0: Parameters(Type.ID, 19, 16, 32, 2, 8192, 3), TOO_COSTLY: ValueError}, errors.HashingError),
+}
 pytestmark = pytest.mark.filterwarnings("ignore:.* is deprecated:DeprecationWarning")
-each_call = pytest.mark.parametrize("name", CALLS)
+
+
+def log_in():
+    """Log in, and renew the hash without the library."""
+    with unittest.mock.patch.object(PasswordHasher, "hash", return_value="y"):
+        return PasswordHasher().verify_and_update(TEXT, "p")
 
 
 def said_of(number):
@@ -85,99 +112,49 @@ def gives(place, call, values, other, saw=lambda number: True):
         if isinstance(expected, type):
             with pytest.raises(Exception) as raised:
                 call()
-            assert (raised.type, str(raised.value)) == (expected, said_of(number)), number
+            said = str(raised.value) if expected is not ValueError else said_of(number)
+            assert (raised.type, said) == (expected, said_of(number)), number
         else:
             found = call()
             assert (found, type(found)) == (expected, type(expected)), number
         assert saw(number), (number, seen())
 
 
-@each_call
+@pytest.mark.parametrize("name", CALLS)
 @pytest.mark.parametrize("is_kept", [False, True])
 def test_a_call_gives_for_each_number_what_the_table_says(name, is_kept):
     """It passes its arguments in order, and its kept buffers. A hash asks for as many threads as it has lanes."""
-    codes, other = CODES[name], errors.HashingError if name.startswith("hash") else errors.VerificationError
+    codes, memory = CODES[name], Memory(64) if is_kept else None
     values = {number: VALUES[value] for number, value in codes.values.items()}
-    telling, memory = codes.telling if codes.hashes else CODES["read"].telling, Memory(64) if is_kept else None
-
-    def call():
-        return CALLS[name](memory=memory)
-
-    def saw(number):
-        computes = number == 0 or place == "then"
-        told = telling if computes or not codes.hashes else ""
-        return seen() == Seen(
-            (4 if codes.hashes else MOST) * computes, 65536 if computes and is_kept else -1, 0 if computes else -1,
-            0, 0, 0, codes.judging, told, codes.computing if computes else "")
-
-    for place in [*codes.places, *["read"] * (not codes.hashes)]:
-        if place == "read":
-            values = {0: True}
-        elif not codes.hashes:
-            values[HEADER["TOO_COSTLY"]] = errors.TooCostlyError
-        gives(place, call, values, other, saw)
+    received = Seen(4 if codes.hashes else MOST, 65536 if is_kept else -1, 0, 0, 0, 0, "",
+                    codes.telling if codes.hashes else CODES["read"].telling, codes.computing)
+    if not codes.hashes:
+        values[TOO_COSTLY] = errors.TooCostlyError
+    gives("then", lambda: CALLS[name](memory=memory), values,
+          errors.HashingError if codes.hashes else errors.VerificationError, lambda number: seen() == received)
+    if not codes.hashes:  # A string that cannot be read is not verified.
+        gives("read", lambda: CALLS[name](memory=memory), {**VERDICTS, 0: True}, errors.VerificationError,
+              lambda number: bool(seen().computing) == (number == 0))
 
 
-def test_a_memory_is_made_only_for_ok():
-    for number in NUMBERS[1:]:
-        set_answers(memory=number)
-        with pytest.raises(errors.HashingError, match=said_of(number)):
-            Memory(64)
+@pytest.mark.parametrize("name", OTHERS)
+def test_other_calls_give_for_each_number_what_it_means(name):
+    gives(*OTHERS[name])
 
 
-def test_hashers_and_deprecated_calls_return_or_raise_the_same():
-    for call, value in HASHERS:
-        gives("then", call, {0: value}, errors.HashingError)
-        gives("check", call, {0: value}, errors.HashingError)
-    for call in VERIFIERS:  # A hash that was made with other settings matches.
-        gives("then", call, {**VERDICTS, HEADER["NEEDS_REHASH"]: True}, errors.VerificationError)
-    gives("then", OLDER_VERIFIER, VERDICTS, errors.VerificationError)
-    gives("read", OLDER_VERIFIER, {0: True}, errors.VerificationError)
-
-
-def test_a_login_returns_or_raises_the_same_and_renews_only_a_hash_with_other_settings():
-    renewed = (True, "x" * 12)
-    verdicts = {**VERDICTS, 0: (True, None), HEADER["MISMATCH"]: (False, None)}
-    with unittest.mock.patch.object(PasswordHasher, "hash", return_value="x" * 12):
-        gives("then", lambda: PasswordHasher().verify_and_update(TEXT, "p"),
-              {**verdicts, HEADER["NEEDS_REHASH"]: renewed}, errors.VerificationError)
-
-
-def test_a_user_who_does_not_exist_is_never_let_in():
-    hasher = PasswordHasher(3, 64, 4, 5, 8, type=Type.I, secret=b"key")
-    gives("then", lambda: hasher.verify_unknown("word"), {HEADER["MISMATCH"]: False,
-          HEADER["TOO_COSTLY"]: errors.TooCostlyError}, errors.VerificationError)
+def test_tune_and_verify_unknown_pass_their_arguments():
+    with pytest.raises(errors.VerificationError):
+        UNKNOWN.verify_unknown("word")
     assert seen().computing == "unknown word key 1 19 64 3 4 5"
-
-
-def test_tune_passes_its_arguments_and_returns_what_the_library_found():
-    words = "^with at most 8192 KiB no settings that protect passwords take at most 250.5 ms here$"
-    set_answers(then=HEADER["TOO_COSTLY"])
-    with pytest.raises(ValueError, match=words):
-        tune(250.5, 8192, 3)
-    for number in (number for number in NUMBERS if number not in (0, HEADER["TOO_COSTLY"])):
-        set_answers(then=number)
-        with pytest.raises(errors.HashingError, match=said_of(number)):
-            tune(250.5, 8192, 3)
-    set_answers()
-    assert tune(250.5, 8192, 3).parameters == Parameters(Type.ID, 19, 16, 32, 2, 8192, 3)
     assert tune(250.5, 8192, 3).milliseconds == 250.5
     for milliseconds, expected in ((0, 0), (-1, 0), (math.nan, 0), (math.inf, 10**9), (1e300, 10**9)):
         assert tune(milliseconds).milliseconds == expected
 
 
-@pytest.mark.parametrize("call, value", READERS)
-def test_settings_of_a_string_are_returned_only_for_ok(call, value):
-    invalid = {HEADER["DECODING_FAIL"]: errors.InvalidHashError, HEADER["NOT_ASCII"]: errors.InvalidHashError,
-               HEADER["OUT_OF_MEMORY"]: MemoryError}
-    gives("read", call, {**invalid, 0: value}, errors.Argon2Error)
-
-
 def test_the_numbers_are_the_header_s():
     assert [Type.D.value, Type.I.value, Type.ID.value] == [HEADER[name] for name in ("D", "I", "ID")]
     assert (ARGON2_VERSION, error_to_str(5)) == (HEADER["VERSION_13"], said_of(5))
-    for name in ("OK", "DECODING_FAIL", "OUT_OF_MEMORY", "MISMATCH", "NOT_ASCII", "UNKNOWN_NUMBER", "NEEDS_REHASH",
-                 "TOO_COSTLY"):
+    for name in ("OK", "DECODING_FAIL", "OUT_OF_MEMORY", "MISMATCH", "NOT_ASCII", "NEEDS_REHASH", "TOO_COSTLY"):
         assert getattr(_library, name) == HEADER[name], name
 
 
@@ -221,8 +198,8 @@ def test_a_call_reports_progress_in_the_main_thread_or_if_asked():
         told.clear()
 
 
-@pytest.mark.parametrize("error", [ValueError("enough"), KeyboardInterrupt(), SystemExit(3), GeneratorExit("it")])
-@pytest.mark.parametrize("number", [HEADER["STOPPED"], 0, HEADER["MISMATCH"]])
+@pytest.mark.parametrize("error", [ValueError("enough"), KeyboardInterrupt(), SystemExit(3)])
+@pytest.mark.parametrize("number", [HEADER["STOPPED"], 0, MISMATCH])
 def test_an_exception_of_progress_stops_a_call_whatever_the_library_returns(error, number):
     def progress(*_):
         raise error
@@ -236,9 +213,8 @@ def test_an_exception_of_progress_stops_a_call_whatever_the_library_returns(erro
 
 @pytest.mark.parametrize("call, threads", [
     (lambda: hash_secret(b"p", b"somesalt", 3, 640, 40, 5, Type.ID), 40), (CALLS["hash_raw"], 4),
-    (lambda: PasswordHasher(parallelism=3).hash("p"), 3), (lambda: PasswordHasher(parallelism=1).hash("p"), 1),
-    (lambda: PasswordHasher(parallelism=3, keep_memory=True).hash("p"), 3), (CALLS["verify_encoded"], MOST),
-    *((call, MOST) for call in (*VERIFIERS, OLDER_VERIFIER)), (lambda: tune(1, parallelism=3), 3)])
+    (lambda: PasswordHasher(parallelism=3).hash("p"), 3), (lambda: PasswordHasher().verify(TEXT, "p"), MOST),
+    (lambda: tune(1, parallelism=3), 3)])
 def test_a_call_asks_for_as_many_threads_as_lanes_or_for_any_number_to_verify(call, threads):
     call()
     assert seen().threads == threads

@@ -66,7 +66,7 @@ async def lose_clients():
         for login in logins:
             login.cancel()
         assert not any(login.exception() for login in (await asyncio.wait(logins))[0] if not login.cancelled())
-    while hasher._pool.jobs:  # Those that were computed end after their slice.
+    while hasher._pool.computing:  # Those that were computed end after their slice.
         await asyncio.sleep(0.01)
     assert (await log_in("somebody", "password", OLDER))[0] is True
 

@@ -1,68 +1,42 @@
-"""`AsyncPasswordHasher`: its results, its limits, cancellation, forked children, and denied threads."""
+"""`AsyncPasswordHasher`: its results, its limits, cancellation, forked children, denied threads, and the end."""
 import asyncio
 import contextlib
-import gc
 import multiprocessing
-import subprocess
-import sys
 import threading
 import time
 import weakref
 from unittest import mock
 
 import pytest
-from processes import PATIENCE, status_of_child
-from proved_argon2 import AsyncPasswordHasher, AsyncPepperedHasher, PasswordHasher, PepperedHasher
-from proved_argon2.exceptions import (
-    Argon2Error,
-    BusyError,
-    HashingError,
-    TooCostlyError,
-    UnknownPepperError,
-    VerifyMismatchError,
-)
+from processes import PATIENCE, run, status_of_child, without_collector
+from proved_argon2 import AsyncPasswordHasher, AsyncPepperedHasher, PasswordHasher, PepperedHasher, _pool
+from proved_argon2.exceptions import Argon2Error, BusyError, TooCostlyError, UnknownPepperError, VerifyMismatchError
 
 HASHER = PasswordHasher(time_cost=1, memory_cost=64, parallelism=2)
+PEPPERED = PepperedHasher({"2026": b"new", "2025": b"old"}, time_cost=1, memory_cost=64)
 # A hash that takes more than a minute.
 LONG = PasswordHasher(time_cost=200000, memory_cost=8192, parallelism=1)
-HASHES = """
+# The address space is limited, so that the system denies each thread that asks for a stack of 4 GiB.
+DENIALS = """
 import asyncio, resource, threading
 from proved_argon2 import AsyncPasswordHasher, PasswordHasher
 from proved_argon2.exceptions import BusyError
 hasher = AsyncPasswordHasher(PasswordHasher(1, 64, 1), concurrency=4, waiting=8)
-"""
-# The address space is limited, so that the system denies each thread that asks for a stack of 4 GiB.
-DENIALS = HASHES + """
 resource.setrlimit(resource.RLIMIT_AS, (2 << 30, resource.RLIM_INFINITY))
 
 def deny_threads(are_denied):
     threading.stack_size(4 << 30 if are_denied else 0)
 
 async def hash_many(count):
-    return [await call for call in [asyncio.ensure_future(hasher.hash("password")) for _ in range(count)]]
-
-def threads():
-    return sum(thread.name.startswith("proved-argon2") for thread in threading.enumerate())
+    hashes = await asyncio.gather(*[hasher.hash("password") for _ in range(count)], return_exceptions=True)
+    errors = [str(hash) for hash in hashes if isinstance(hash, BusyError)]
+    threads = sum(thread.name.startswith("proved-argon2") for thread in threading.enumerate())
+    print(count - len(errors), "hashes by", threads, "threads", *errors)
 
 async def main():
-    deny_threads(True)
-    try:
-        await hasher.hash("password")
-    except BusyError as error:
-        print("no thread:", error)
-    deny_threads(False)
-    await hash_many(1)
-    deny_threads(True)
-    print(len(await hash_many(12)), "hashes by", threads(), "thread")
-    try:
-        await hash_many(13)
-    except BusyError as error:
-        print(error)
-    await hash_many(12)
-    deny_threads(False)
-    count = len(await hash_many(12))
-    await asyncio.sleep(0.5)  # An executor that is not used any more ends its thread.
-    print(count, "hashes by", threads(), "threads")
+    for count, are_denied in ((1, True), (1, False), (12, True), (13, True), (12, False)):
+        deny_threads(are_denied)
+        await hash_many(count)
 
 asyncio.run(main())
 """
@@ -85,56 +59,53 @@ print("the program ends", flush=True)
 """
 
 
-@pytest.fixture
-def without_collector():
-    """Turn off the collector of garbage, so that objects which refer to each other stay alive."""
-    gc.collect()
-    gc.disable()
-    yield
-    gc.enable()
+def denied_threads():
+    def deny(*_):
+        raise RuntimeError("can't start new thread")
+
+    return mock.patch.object(threading.Thread, "start", deny)
 
 
-def deny(*_):
-    """Stands in for `Thread.start` when the system denies a thread."""
-    raise RuntimeError("can't start new thread")
+async def begin(hasher, count):
+    """Let a hasher begin long calls. Return their tasks."""
+    hasher.hasher = LONG
+    calls = [asyncio.ensure_future(hasher.hash("password")) for _ in range(count)]
+    while len(hasher._pool.computing) < min(count, hasher.concurrency):
+        await asyncio.sleep(0.01)
+    hasher.hasher = HASHER
+    return calls
 
 
-def run(program):
-    """Return what a program prints, which must succeed."""
-    words = [sys.executable, "-W", "error", "-c", program]
-    done = subprocess.run(words, capture_output=True, text=True, timeout=PATIENCE)
-    assert done.returncode == 0, done.stderr
-    return done.stdout
+async def hash_soon(hasher):
+    encoded = await asyncio.wait_for(hasher.hash("password"), PATIENCE / 4)
+    assert HASHER.verify(encoded, "password")
 
 
 def test_calls_have_the_results_of_password_hasher():
     async def compare():
-        hasher = AsyncPasswordHasher(HASHER)
-        encoded = await hasher.hash("password", salt=b"saltsaltsaltsalt")
-        assert encoded == HASHER.hash("password", salt=b"saltsaltsaltsalt")
-        assert await hasher.verify(encoded, "password") is True
-        with pytest.raises(VerifyMismatchError):
-            await hasher.verify(encoded, "Password")
+        hasher, salt = AsyncPasswordHasher(HASHER), b"saltsaltsaltsalt"
+        for data in ({}, {"associated_data": b"user 7"}):
+            encoded = await hasher.hash("password", salt=salt, **data)
+            assert encoded == HASHER.hash("password", salt=salt, **data) and not hasher.check_needs_rehash(encoded)
+            assert await hasher.verify(encoded, "password", **data) is True
+            assert await hasher.verify_and_update(encoded, "password", **data) == (True, None)
+            assert await hasher.verify_and_update(encoded, "Password", **data) == (False, None)
+            with pytest.raises(VerifyMismatchError):
+                await hasher.verify(encoded, "password", associated_data=b"user 8")
         with pytest.raises(TooCostlyError):
             await hasher.verify(encoded.replace("m=64", "m=4294967295"), "password")
-        assert await hasher.verify_and_update(encoded, "Password") == (False, None)
-        assert await hasher.verify_and_update(encoded, "password") == (True, None)
         assert await hasher.verify_unknown("password") is False
-        assert not hasher.check_needs_rehash(encoded)
-        encoded = await hasher.hash("password", associated_data=b"user 7")
-        assert await hasher.verify(encoded, "password", associated_data=b"user 7") is True
-        assert await hasher.verify_and_update(encoded, "password", associated_data=b"user 7") == (True, None)
-        assert await hasher.verify_and_update(encoded, "password") == (False, None)
+        assert hasher.check_needs_rehash(encoded.replace("m=64", "m=65"))
 
     asyncio.run(compare())
 
 
 def test_calls_have_the_results_of_peppered_hasher():
+    """`run` makes them in the threads of another hasher."""
     async def compare():
-        hasher = AsyncPepperedHasher(PepperedHasher({"2026": b"new", "2025": b"old"}, time_cost=1, memory_cost=64))
-        key_id, encoded = await hasher.hash("password", associated_data=b"user 7")
-        data = {"associated_data": b"user 7"}
-        assert PasswordHasher(secret=b"new").verify(encoded, "password", **data) and key_id == "2026"
+        hasher, data = AsyncPepperedHasher(PEPPERED), {"associated_data": b"user 7"}
+        key_id, encoded = await hasher.hash("password", **data)
+        assert (key_id, PasswordHasher(secret=b"new").verify(encoded, "password", **data)) == ("2026", True)
         assert await hasher.verify_and_update(key_id, encoded, "password", **data) == (True, None)
         assert await hasher.verify_and_update(key_id, encoded, "Password", **data) == (False, None)
         old = PasswordHasher(1, 64, secret=b"old").hash("password")
@@ -143,52 +114,17 @@ def test_calls_have_the_results_of_peppered_hasher():
         with pytest.raises(UnknownPepperError):
             await hasher.verify_and_update("2024", old, "password")
         assert await hasher.verify_unknown("password") is False
+        other = AsyncPasswordHasher(HASHER)
+        assert await other.run(PEPPERED.verify_and_update, key_id, renewed, "password") == (True, None)
+        assert await other.run(PEPPERED.verify_and_update, "2026", encoded, "password", **data) == (True, None)
 
     asyncio.run(compare())
 
 
-@pytest.mark.parametrize("settings, expected", [
-    ({"memory_cost": 65536, "parallelism": 4}, 2), ({"memory_cost": 64, "parallelism": 1}, 8)])
-def test_the_default_concurrency_with_peppers_is_that_of_the_settings_that_are_computed(settings, expected):
-    with mock.patch("proved_argon2._async_hasher.processors", lambda: 8), \
-            mock.patch("proved_argon2._async_hasher.memory", lambda: 16 << 30):
-        peppered, base = AsyncPepperedHasher(PepperedHasher({"2026": b"key"}, **settings)), PasswordHasher(**settings)
-        assert peppered.concurrency == AsyncPasswordHasher(base).concurrency == expected
-        assert peppered.waiting == 16 * expected
-
-
-def test_run_makes_calls_of_a_peppered_hasher():
-    async def log_in():
-        hasher = AsyncPasswordHasher(HASHER)
-        peppered = PepperedHasher({"2026": b"key"}, time_cost=1, memory_cost=64)
-        key_id, encoded = await hasher.run(peppered.hash, "password")
-        assert await hasher.run(peppered.verify_and_update, key_id, encoded, "password") == (True, None)
-        assert await hasher.run(peppered.verify_and_update, key_id, encoded, "Password") == (False, None)
-        assert await hasher.run(peppered.verify_unknown, "password") is False
-
-    asyncio.run(log_in())
-
-
-@pytest.mark.parametrize("error", [OSError, NotImplementedError])
-def test_a_login_goes_on_if_the_system_makes_no_salt(error):
-    """Only the new hash, which would replace the old one, needs a salt."""
-    async def log_in():
-        hasher, old = AsyncPasswordHasher(HASHER), PasswordHasher(2, 64, 2).hash("password")
-        with mock.patch("os.urandom", side_effect=error):
-            assert await hasher.verify_and_update(old, "password") == (True, None)
-            with pytest.raises(HashingError):
-                await hasher.hash("password")
-
-    asyncio.run(log_in())
-
-
 def test_a_call_that_raises_stop_iteration_raises_runtime_error():
-    async def call():
-        with pytest.raises(RuntimeError) as raised:
-            await asyncio.wait_for(AsyncPasswordHasher().run(lambda progress: next(iter(()))), PATIENCE / 4)
-        assert isinstance(raised.value.__cause__, StopIteration)
-
-    asyncio.run(call())
+    call = AsyncPasswordHasher().run(lambda progress: next(iter(())))
+    with pytest.raises(RuntimeError, match="the call raised StopIteration"):
+        asyncio.run(asyncio.wait_for(call, PATIENCE / 4))
 
 
 def test_concurrent_and_waiting_calls_are_limited():
@@ -218,67 +154,80 @@ def test_concurrent_and_waiting_calls_are_limited():
     assert most == 2
 
 
+def test_a_call_that_has_ended_has_freed_its_place():
+    async def hash_often():
+        hasher = AsyncPasswordHasher(HASHER, concurrency=1, waiting=0)
+        for _ in range(200):
+            await hasher.hash("password")
+
+    asyncio.run(hash_often())
+
+
+def test_a_call_after_the_threads_have_ended_starts_another_one(monkeypatch):
+    async def hash_seldom():
+        hasher = AsyncPasswordHasher(HASHER, concurrency=1)
+        for _ in range(3):
+            await hash_soon(hasher)
+            while hasher._pool._threads and threads():
+                await asyncio.sleep(0.01)
+
+    def threads():
+        return {thread for thread in threading.enumerate() if thread.name == "proved-argon2"} - before
+
+    before = {*threading.enumerate()}
+    monkeypatch.setattr(_pool, "IDLE_SECONDS", 0.01)
+    asyncio.run(hash_seldom())
+
+
 def test_cancelled_calls_free_their_places():
     async def cancel():
-        hasher = AsyncPasswordHasher(LONG, concurrency=1, waiting=1)
-        computing, waiting = (asyncio.ensure_future(hasher.hash("password")) for _ in range(2))
-        await asyncio.sleep(0.1)
-        for call in (waiting, computing):
+        hasher = AsyncPasswordHasher(concurrency=1, waiting=1)
+        for call in reversed(await begin(hasher, 2)):
             call.cancel()
             with pytest.raises(asyncio.CancelledError):
                 await call
-        hasher.hasher = HASHER
-        assert HASHER.verify(await hasher.hash("password"), "password")
+        await hash_soon(hasher)
 
-    begun = time.monotonic()
     asyncio.run(cancel())
-    assert time.monotonic() - begun < PATIENCE
 
 
-def test_a_coroutine_that_is_closed_stops_its_call_and_logs_nothing(caplog):
+@pytest.mark.parametrize("computes", [False, True])
+def test_a_coroutine_that_is_closed_stops_its_call_and_logs_nothing(caplog, computes):
     """Python closes a coroutine that nothing awaits any more."""
     async def close():
         hasher = AsyncPasswordHasher(LONG, concurrency=1)
         call = hasher.hash("password")
         call.send(None)
+        while computes and not hasher._pool.computing:
+            await asyncio.sleep(0.01)
         call.close()
         hasher.hasher = HASHER
-        await asyncio.wait_for(hasher.hash("password"), PATIENCE / 4)
+        await hash_soon(hasher)
 
     asyncio.run(close())
     assert not caplog.records
 
 
-def test_an_ended_or_cancelled_call_keeps_no_argument(without_collector):
+def test_a_cancelled_call_that_waits_keeps_no_argument():
     class Argument:
         """Stands in for a password."""
 
-    async def end(hasher, is_cancelled):
-        argument = Argument()
-        kept = weakref.ref(argument)
-        task = asyncio.ensure_future(hasher.run(lambda argument, progress: None, argument))
+    async def cancel():
+        hasher, argument = AsyncPasswordHasher(concurrency=1, waiting=1), Argument()
+        kept, (computing,) = weakref.ref(argument), await begin(hasher, 1)
+        waiting = asyncio.ensure_future(hasher.run(lambda argument, progress: None, argument))
         await asyncio.sleep(0)
-        if is_cancelled:
-            task.cancel()
-        del argument
-        await asyncio.wait([task])
-        return kept
+        waiting.cancel()
+        await asyncio.wait([waiting])
+        del argument, waiting
+        assert kept() is None
+        computing.cancel()
 
-    async def end_all():
-        go = threading.Event()
-        hasher = AsyncPasswordHasher(concurrency=1, waiting=1)
-        ended = await end(hasher, is_cancelled=False)
-        blocking = asyncio.ensure_future(hasher.run(lambda progress: go.wait(5)))
-        await asyncio.sleep(0.05)
-        cancelled = await end(hasher, is_cancelled=True)
-        assert (ended(), cancelled()) == (None, None)
-        go.set()
-        await blocking
-
-    asyncio.run(end_all())
+    with without_collector():
+        asyncio.run(cancel())
 
 
-def test_no_exception_or_result_keeps_a_password(without_collector):
+def test_no_exception_or_result_keeps_a_password():
     class Password(str):
         """A password that can be referred to weakly."""
 
@@ -295,7 +244,7 @@ def test_no_exception_or_result_keeps_a_password(without_collector):
         await asyncio.wait([call])
 
     async def hash_without_threads(hasher):
-        with mock.patch.object(threading.Thread, "start", deny):
+        with denied_threads():
             await hasher.hash(Password("password"))
 
     async def call_all(hasher, encoded):
@@ -312,117 +261,95 @@ def test_no_exception_or_result_keeps_a_password(without_collector):
         assert [password() for password in kept] == [None] * 7
 
     kept = []
-    asyncio.run(call_all(AsyncPasswordHasher(HASHER), HASHER.hash("password")))
+    with without_collector():
+        asyncio.run(call_all(AsyncPasswordHasher(HASHER), HASHER.hash("password")))
 
 
-@pytest.mark.parametrize("bounds", [{"concurrency": 0}, {"waiting": -1}])
-def test_limits_that_allow_no_call_are_rejected(bounds):
-    with pytest.raises(ValueError, match="'concurrency' must be at least 1"):
-        AsyncPasswordHasher(**bounds)
-
-
-WRONG_HASHER = {"hasher": {"hasher": PasswordHasher()}}
-
-
-@pytest.mark.parametrize("arguments", [
-    {"concurrency": "4"}, {"waiting": 1.5}, {"concurrency": True}, {"hasher": PepperedHasher({"2026": b"key"})}])
-def test_arguments_of_a_wrong_type_are_named_in_the_error(arguments):
-    (name,) = arguments
-    with pytest.raises(TypeError, match=f"^'{name}' must be (int|PasswordHasher), not "):
-        AsyncPasswordHasher(**arguments)
-    with pytest.raises(TypeError, match=f"^'{name}' must be (int|PepperedHasher), not "):
-        AsyncPepperedHasher(**{"hasher": PepperedHasher({"2026": b"key"}), **arguments, **WRONG_HASHER.get(name, {})})
+@pytest.mark.parametrize("wrong, error, words", [
+    ({"concurrency": 0}, ValueError, "'concurrency' must be at least 1"),
+    ({"waiting": -1}, ValueError, "'concurrency' must be at least 1, and 'waiting' at least 0"),
+    ({"concurrency": "4"}, TypeError, "'concurrency' must be int, not str"),
+    ({"concurrency": True}, TypeError, "'concurrency' must be int, not bool"),
+    ({"waiting": 1.5}, TypeError, "'waiting' must be int, not float"),
+    ({"hasher": "x"}, TypeError, r"'hasher' must be (PasswordHasher|PepperedHasher), not str")])
+def test_wrong_arguments_are_named_in_the_error(wrong, error, words):
+    for kind, hasher in ((AsyncPasswordHasher, HASHER), (AsyncPepperedHasher, PEPPERED)):
+        with pytest.raises(error, match=f"^{words}$" if error is TypeError else words):
+            kind(**{"hasher": hasher, **wrong})
 
 
 # ---- forked children
-
-of_threads_that_fork = pytest.mark.filterwarnings("ignore:.*multi-threaded.*fork:DeprecationWarning")
-
-
-async def hash_and_verify(hasher, count=3):
-    """Make as many calls as `hasher` takes at a time, again and again."""
-    for _ in range(count):
-        encoded = await asyncio.wait_for(asyncio.gather(*[hasher.hash("password") for _ in range(3)]), PATIENCE / 4)
-        assert await asyncio.wait_for(hasher.verify(encoded[0], "password"), PATIENCE / 4)
-
 
 @pytest.fixture
 def used():
     """Return a hasher for three calls at a time, which this process has used."""
     hasher = AsyncPasswordHasher(HASHER, concurrency=2, waiting=1)
-    asyncio.run(hash_and_verify(hasher, 1))
+    asyncio.run(use(hasher))
     return hasher
 
 
-@of_threads_that_fork
-def test_a_child_that_is_forked_between_calls_can_make_calls(used):
-    def run_in_child():
-        asyncio.run(hash_and_verify(used))
-        assert status_of_child(lambda: asyncio.run(hash_and_verify(used))) == 0
-
-    assert status_of_child(run_in_child) == 0
-    asyncio.run(hash_and_verify(used))
+async def use(hasher):
+    """Make as many calls as `used` takes at a time, again and again."""
+    for _ in range(3):
+        await asyncio.gather(*[hash_soon(hasher) for _ in range(3)])
 
 
-@of_threads_that_fork
-def test_a_child_that_is_forked_during_calls_has_all_places(used):
-    """The parent has no place left, since two calls compute and one waits."""
-    async def fork():
-        used.hasher = LONG
-        calls = [asyncio.ensure_future(used.hash("password")) for _ in range(3)]
-        await asyncio.sleep(0.1)
-        used.hasher = HASHER
-        status = await asyncio.get_running_loop().run_in_executor(None, status_of_child, run_in_child)
-        with pytest.raises(BusyError):
-            await used.hash("password")
-        for call in calls:
-            call.cancel()
-        await asyncio.wait(calls)
-        while used._pool.jobs:  # A call that computes ends after its slice.
-            await asyncio.sleep(0.01)
-        return status
+@pytest.mark.filterwarnings("ignore:.*multi-threaded.*fork:DeprecationWarning")
+class TestForks:
+    def test_a_child_that_is_forked_between_calls_can_make_calls_and_so_can_its_own_child(self, used):
+        def run_in_child():
+            asyncio.run(use(used))
+            assert status_of_child(lambda: asyncio.run(use(used))) == 0
 
-    def run_in_child():
-        asyncio.run(hash_and_verify(used))
+        assert status_of_child(run_in_child) == 0
+        asyncio.run(use(used))
 
-    assert asyncio.run(fork()) == 0
-    asyncio.run(hash_and_verify(used))
+    def test_a_child_that_is_forked_during_calls_has_all_places(self, used):
+        """The parent has no place left, since two calls compute and one waits."""
+        async def fork():
+            calls = await begin(used, 3)
+            status = await asyncio.get_running_loop().run_in_executor(
+                None, status_of_child, lambda: asyncio.run(use(used)))
+            with pytest.raises(BusyError):
+                await used.hash("password")
+            for call in calls:
+                call.cancel()
+            await asyncio.wait(calls)
+            return status
 
+        assert asyncio.run(fork()) == 0
 
-@of_threads_that_fork
-def test_a_child_that_is_forked_while_a_thread_holds_the_lock_can_make_calls(used):
-    is_held, go = threading.Event(), threading.Event()
+    def test_a_child_that_is_forked_while_a_thread_holds_the_lock_can_make_calls(self, used):
+        is_held, go = threading.Event(), threading.Event()
 
-    def hold():
-        with used._pool._lock:
-            is_held.set()
-            go.wait(PATIENCE)
+        def hold():
+            with used._pool._changed:
+                is_held.set()
+                go.wait(PATIENCE)
 
-    holding = threading.Thread(target=hold)
-    holding.start()
-    is_held.wait()
-    status = status_of_child(lambda: asyncio.run(hash_and_verify(used)))
-    go.set()
-    holding.join()
-    assert status == 0
+        holding = threading.Thread(target=hold)
+        holding.start()
+        is_held.wait()
+        status = status_of_child(lambda: asyncio.run(use(used)))
+        go.set()
+        holding.join()
+        assert status == 0
 
-
-@of_threads_that_fork
-def test_processes_of_multiprocessing_can_make_calls(used):
-    process = multiprocessing.get_context("fork").Process(target=lambda: asyncio.run(hash_and_verify(used)))
-    process.start()
-    process.join(PATIENCE)
-    if process.is_alive():
-        process.kill()
-    assert process.exitcode == 0
+    def test_processes_of_multiprocessing_can_make_calls(self, used):
+        process = multiprocessing.get_context("fork").Process(target=lambda: asyncio.run(use(used)))
+        process.start()
+        process.join(PATIENCE)
+        if process.is_alive():
+            process.kill()
+        assert process.exitcode == 0
 
 
-# ---- denied threads, and the end of a program
+# ---- denied threads, closed event loops, and the end of a program
 
 def test_denied_threads_leave_the_calls_to_the_other_threads():
     assert run(DENIALS).splitlines() == [
-        "no thread: the system denied a thread: can't start new thread", "12 hashes by 1 thread",
-        "12 calls compute or wait", "12 hashes by 4 threads"]
+        "0 hashes by 0 threads the system denied a thread: can't start new thread", "1 hashes by 1 threads",
+        "12 hashes by 1 threads", "12 hashes by 1 threads 12 calls compute or wait", "12 hashes by 4 threads"]
 
 
 def test_a_call_that_is_refused_since_there_is_no_thread_is_not_made_by_a_later_one():
@@ -430,7 +357,7 @@ def test_a_call_that_is_refused_since_there_is_no_thread_is_not_made_by_a_later_
 
     async def call():
         hasher = AsyncPasswordHasher(HASHER, concurrency=1, waiting=1)
-        with mock.patch.object(threading.Thread, "start", deny):
+        with denied_threads():
             for _ in range(3):
                 with pytest.raises(BusyError, match="^the system denied a thread: can't start new thread$"):
                     await hasher.run(lambda progress: made.append("refused"))
@@ -460,9 +387,11 @@ def test_a_call_whose_event_loop_is_closed_frees_its_place(caplog):
         asyncio.run(hasher.hash("password"))
     go.set()
     end = time.monotonic() + PATIENCE / 4
-    while hasher._pool.jobs and time.monotonic() < end:
+    while hasher._pool.computing and time.monotonic() < end:
         time.sleep(0.01)
-    assert HASHER.verify(asyncio.run(hasher.hash("password")), "password") and not left.done() and not caplog.records
+    for _ in range(2):  # The thread has survived.
+        asyncio.run(hash_soon(hasher))
+    assert not left.done() and not caplog.records
     left._log_destroy_pending = False  # asyncio would log that this task was not awaited.
 
 

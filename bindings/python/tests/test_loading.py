@@ -27,7 +27,7 @@ def test_an_import_takes_at_most_50_milliseconds():
 
 def test_an_import_loads_no_slow_module():
     loaded = fresh("before = {*sys.modules}\nimport proved_argon2\nprint(*sys.modules.keys() - before)").split()
-    slow = {"asyncio", "concurrent.futures", "ctypes.util", "pathlib", "subprocess", "typing"}
+    slow = {"asyncio", "concurrent.futures", "ctypes.util", "dataclasses", "inspect", "pathlib", "subprocess", "typing"}
     assert "ctypes" in loaded and slow.isdisjoint(loaded)
 
 
@@ -59,21 +59,3 @@ def test_the_error_says_how_to_get_a_library(monkeypatch, file):
     words = "run ./install in the repository .*, or let pip compile the library .*, or name the file in"
     with pytest.raises(ImportError, match=f"cannot be loaded: {words} {_library.VARIABLE}"):
         _library._load()
-
-
-def test_settings_are_rejected_before_memory_is_allocated():
-    """The process may have 2 GiB, and asks for a hash of 4 GiB. A call does not change the error number of `ctypes`."""
-    said = fresh("""
-import ctypes, resource
-from proved_argon2.exceptions import HashingError
-from proved_argon2.low_level import Type, hash_secret, hash_secret_raw
-resource.setrlimit(resource.RLIMIT_AS, (1 << 31, 1 << 31))
-ctypes.set_errno(7)
-for call in (hash_secret, hash_secret_raw):
-    for salt, memory, length in ((b"salt", 8, -1), (b"somesalt", 8, -1), (b"somesalt", -1, 32)):
-        try:
-            call(b"password", salt, 1, memory % (1 << 32), 1, length % (1 << 32), Type.ID)
-        except HashingError as error:
-            print(error, ctypes.get_errno())
-""")
-    assert said == 2 * "Salt is too short 7\nOut of memory 7\nOut of memory 7\n"

@@ -2,7 +2,7 @@
 from unittest import mock
 
 import pytest
-from proved_argon2 import AsyncPasswordHasher, PasswordHasher, _machine
+from proved_argon2 import AsyncPasswordHasher, AsyncPepperedHasher, PasswordHasher, PepperedHasher, _machine
 
 GIB = 1 << 30
 NO_LIMIT_OF_VERSION_1 = "9223372036854771712"
@@ -59,17 +59,13 @@ def test_the_memory_is_limited_by_each_cgroup_above_the_process(cgroups, own, li
     ("0::/system.slice/it.service\n", {"system.slice/it.service/cpu.max": "150000 50000"}, 3),
     ("0::/system.slice/it.service\n", {"system.slice/cpu.max": "200000 100000",
                                        "system.slice/it.service/cpu.max": "max 100000"}, 2),
-    ("0::/system.slice/it.service\n", {"system.slice/other.service/cpu.max": "100000 100000"}, 8),
-    # Parts of a processor, no quota, and a quota of more processors than there are.
+    # These quotas allow a part of a processor, or more processors than the machine has.
     ("0::/\n", {"cpu.max": "299999 100000"}, 2),
     ("0::/\n", {"cpu.max": "10000 100000"}, 1),
-    ("0::/\n", {"cpu.max": "max 100000"}, 8),
     ("0::/\n", {"cpu.max": "6400000 100000"}, 8),
-    # Version 1: a cgroup, a quota of the one above it, no quota, and a container, in which the path is the host's.
-    ("5:cpu,cpuacct:/a/b\n", {"cpu/a/b/cpu.cfs_quota_us": 300000, "cpu/a/b/cpu.cfs_period_us": 100000}, 3),
-    ("1:cpu:/a/b\n", {"cpu/a/cpu.cfs_quota_us": 100000, "cpu/a/cpu.cfs_period_us": 50000,
-                      "cpu/a/b/cpu.cfs_quota_us": -1, "cpu/a/b/cpu.cfs_period_us": 100000}, 2),
-    ("1:cpu:/docker/1234\n", {"cpu/cpu.cfs_quota_us": 100000, "cpu/cpu.cfs_period_us": 100000}, 1),
+    # Version 1: a quota of a cgroup above one without a quota, one that lacks a file, and another controller.
+    ("1:cpu,cpuacct:/a/b\n", {"cpu/a/cpu.cfs_quota_us": 100000, "cpu/a/cpu.cfs_period_us": 50000,
+                              "cpu/a/b/cpu.cfs_quota_us": -1, "cpu/a/b/cpu.cfs_period_us": 100000}, 2),
     ("1:cpu:/a\n", {"cpu/a/cpu.cfs_quota_us": 100000}, 8),
     ("4:memory:/a\n", {"cpu/a/cpu.cfs_quota_us": 100000, "cpu/a/cpu.cfs_period_us": 100000}, 8),
     (None, {}, 8),
@@ -78,21 +74,16 @@ def test_the_processors_are_limited_by_each_quota_above_the_process(cgroups, own
     cgroups(own, files)
     with mock.patch("os.sched_getaffinity", return_value=range(8)):
         assert _machine.processors() == expected
-        assert AsyncPasswordHasher(PasswordHasher(memory_cost=64, parallelism=1)).concurrency == expected
 
 
-@pytest.mark.parametrize("limit, expected", [("max", 8), (GIB, 4), (GIB // 4, 1), (1, 1)])
-def test_the_default_concurrency_follows_the_cgroup(cgroups, limit, expected):
-    cgroups("0::/system.slice/it.service\n", {"system.slice/it.service/memory.max": limit})
+@pytest.mark.parametrize("kib, lanes, limits, expected", [
+    (65536, 1, {}, 8), (65536, 4, {}, 2), (65536, 9, {}, 1), (1 << 18, 1, {}, 4), (1 << 30, 1, {}, 1),
+    (65536, 1, {"memory.max": GIB}, 4), (65536, 1, {"memory.max": 1}, 1), (64, 1, {"cpu.max": "300000 100000"}, 3)])
+def test_the_default_concurrency_follows_processors_lanes_and_memory(cgroups, kib, lanes, limits, expected):
+    """With peppers it is that of the settings that are computed."""
+    cgroups("0::/\n", limits)
+    settings = {"memory_cost": kib, "parallelism": lanes}
     with mock.patch("os.sched_getaffinity", return_value=range(8)):
-        hasher = AsyncPasswordHasher(PasswordHasher(memory_cost=65536, parallelism=1))
-    assert (hasher.concurrency, hasher.waiting) == (expected, 16 * expected)
-
-
-@pytest.mark.parametrize("kib, lanes, expected", [
-    (65536, 1, 8), (65536, 4, 2), (65536, 9, 1), (1 << 17, 1, 8), (1 << 18, 1, 4), (1 << 30, 1, 1)])
-def test_the_default_concurrency_follows_processors_lanes_and_memory(cgroups, kib, lanes, expected):
-    cgroups("", {})
-    with mock.patch("os.sched_getaffinity", return_value=range(8)):
-        hasher = AsyncPasswordHasher(PasswordHasher(memory_cost=kib, parallelism=lanes))
-    assert (hasher.concurrency, hasher.waiting) == (expected, 16 * expected)
+        for hasher in (AsyncPasswordHasher(PasswordHasher(**settings)),
+                       AsyncPepperedHasher(PepperedHasher({"2026": b"key"}, **settings))):
+            assert (hasher.concurrency, hasher.waiting) == (expected, 16 * expected)

@@ -2,12 +2,11 @@
 import asyncio
 import copy
 import pickle
-import time
 from unittest import mock
 
 import pytest
-from processes import PATIENCE, resident
-from proved_argon2 import AsyncPasswordHasher, AsyncPepperedHasher, PasswordHasher, PepperedHasher, _memory, _pool
+from processes import resident, run
+from proved_argon2 import AsyncPasswordHasher, AsyncPepperedHasher, PasswordHasher, PepperedHasher, _memory
 from proved_argon2.exceptions import HashingError, VerifyMismatchError
 from proved_argon2.low_level import Memory
 
@@ -16,6 +15,21 @@ MIB = 1 << 20
 SLACK = 8 * MIB
 # A kept buffer of this many KiB, of which a call has touched all, is seen in the process's memory.
 LARGE = 32 << 10
+# A program that hashes once. It prints how much memory it has more after 8 seconds, and once it is freed or after 20.
+KEEPS = f"""
+import asyncio, time
+from processes import resident
+from proved_argon2 import AsyncPasswordHasher, PasswordHasher
+hasher = AsyncPasswordHasher(PasswordHasher(1, {LARGE}, 1), concurrency=2)
+before = resident()
+asyncio.run(hasher.hash("password"))
+time.sleep(8)
+print(resident() - before)
+end = time.monotonic() + 12
+while resident() - before > {SLACK} and time.monotonic() < end:
+    time.sleep(0.1)
+print(resident() - before)
+"""
 
 
 def settings_of(memory_cost, **named):
@@ -69,39 +83,9 @@ def test_the_number_of_kept_buffers_is_that_of_the_processors_or_of_the_calls():
         assert (hasher._pool._memory.memory_cost, hasher._pool._memory.most) == (64, 2)
 
 
-def hash_in(hasher, seconds=0):
-    """Make a call of an `AsyncPasswordHasher`, in an event loop that runs a while longer."""
-    async def call():
-        await hasher.hash("password")
-        await asyncio.sleep(seconds)
-
-    asyncio.run(call())
-
-
-def test_the_threads_of_an_async_hasher_keep_memory_which_the_event_loop_frees(monkeypatch):
-    before, hasher = resident(), AsyncPasswordHasher(settings_of(LARGE), concurrency=2)
-    hash_in(hasher)
-    assert keeps(hasher, before)
-    looks = mock.Mock(side_effect=[0.1, 0.1, 0])
-    monkeypatch.setattr(_pool, "IDLE_SECONDS", 0.1)
-    monkeypatch.setattr(_memory.Memory, "free_idle", lambda memory: looks())
-    hasher._pool._looking = None
-    hash_in(hasher, seconds=1)
-    assert looks.call_count == 3
-    hash_in(hasher)
-    del hasher
-    end = time.monotonic() + PATIENCE / 4
-    while resident() >= before + SLACK and time.monotonic() < end:
-        time.sleep(0.1)
-    assert resident() < before + SLACK
-
-
-def test_idle_memory_is_freed_after_ten_seconds():
-    before, hasher = resident(), AsyncPasswordHasher(settings_of(LARGE), concurrency=2)
-    hash_in(hasher, seconds=8)
-    assert keeps(hasher, before)
-    hash_in(hasher, seconds=13)
-    assert resident() < before + SLACK
+def test_the_threads_of_an_async_hasher_keep_memory_until_it_has_been_idle_for_ten_seconds():
+    kept, freed = map(int, run(KEEPS).split())
+    assert kept > (LARGE << 10) - SLACK and freed < SLACK
 
 
 def test_a_call_of_an_async_hasher_that_progress_makes_has_the_same_result():

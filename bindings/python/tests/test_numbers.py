@@ -1,14 +1,12 @@
 """Numbers that are too large or negative are rejected everywhere. Most are chosen so that a
 call that kept only their lowest 32 bits would accept them."""
 import copy
-import dataclasses
 import pickle
 
 import pytest
 from proved_argon2 import (
     DEFAULT_LIMITS,
     Limits,
-    Parameters,
     PasswordHasher,
     Type,
     hash_password,
@@ -16,17 +14,17 @@ from proved_argon2 import (
     profiles,
 )
 from proved_argon2._library import default_limits
-from proved_argon2.exceptions import HashingError, TooCostlyError
+from proved_argon2.exceptions import HashingError, TooCostlyError, VerificationError
 from proved_argon2.low_level import error_to_str, hash_secret, hash_secret_raw, verify_secret
 
 NO_NUMBERS = (True, 64.0, "64", None)
 # The lowest 32 bits of all except the first three are 64, which is an acceptable setting.
 TOO_MUCH = (-1, 1 << 32, 1 << 64, 64 - (1 << 32), (1 << 32) + 64, (1 << 64) + 64, 64 - (1 << 64), (1 << 1000) + 64)
 SETTINGS = {"time_cost": 1, "memory_cost": 1024, "parallelism": 1, "hash_len": 16}
+OWN = {"memory_cost": 1024, "time_cost": 3, "parallelism": 4}
 LARGE = {"time_cost": DEFAULT_LIMITS.time_cost + 1, "memory_cost": 1360, "parallelism": DEFAULT_LIMITS.parallelism + 1}
 TEXT = "$argon2id$v=19$m=64,t=4,p=1$c29tZXNhbHQ$AAAAAAAAAAAAAAAAAAAAAA"
-of_each_limit = pytest.mark.parametrize("name, most", [
-    ("memory_cost", 0xFFFFFFFF), ("time_cost", 0xFFFFFFFF), ("parallelism", 0xFFFFFFFF), ("work", 0xFFFFFFFFFFFFFFFF)])
+BITS = {"memory_cost": 32, "time_cost": 32, "parallelism": 32, "work": 64}
 
 
 def hashing(settings):
@@ -52,131 +50,111 @@ def of_settings(settings):
     return parameters
 
 
+def takers(limits):
+    """Yield the calls that take limits."""
+    yield lambda: PasswordHasher(**SETTINGS, limits=limits)
+    yield lambda: PasswordHasher.from_parameters(of_settings(SETTINGS), limits=limits)
+    yield lambda: setattr(PasswordHasher(**SETTINGS), "limits", limits)
+    yield lambda: verify_secret(TEXT.encode(), b"password", Type.ID, limits=limits)
+
+
 @pytest.mark.filterwarnings("ignore:.* is deprecated:DeprecationWarning")
+@pytest.mark.parametrize("numbers, error, words", [
+    (TOO_MUCH, HashingError, "^{} is"), (NO_NUMBERS, TypeError, "'{}' must be int, not")])
 @pytest.mark.parametrize("name", [*SETTINGS, "salt_len", "version"])
-def test_a_setting_must_be_an_integer_of_32_bits(name):
-    for numbers, error, words in ((TOO_MUCH, HashingError, f"^{name} is"), (NO_NUMBERS, TypeError, f"'{name}'")):
-        for number in numbers:
-            for call in hashing({**SETTINGS, name: number}):
-                with pytest.raises(error, match=words):
-                    call()
+def test_a_setting_must_be_an_integer_of_32_bits(name, numbers, error, words):
+    for number in numbers:
+        for call in hashing({**SETTINGS, name: number}):
+            with pytest.raises(error, match=words.format(name)):
+                call()
 
 
-def test_the_number_of_an_error_must_be_an_integer_of_32_bits():
-    for number in (*TOO_MUCH, (1 << 32) + 5, 5 - (1 << 32)):
-        assert error_to_str(number) == f"There is no error {number}"
-    for number in NO_NUMBERS:
-        with pytest.raises(TypeError):
+@pytest.mark.parametrize("name", SETTINGS)
+def test_a_user_who_does_not_exist_costs_no_hash_that_is_impossible(name):
+    for number in (0, *TOO_MUCH):
+        with pytest.raises(VerificationError):
+            PasswordHasher(**{**SETTINGS, name: number}).verify_unknown("password")
+
+
+@pytest.mark.parametrize("numbers, error", [((*TOO_MUCH, (1 << 32) + 5), ValueError), (NO_NUMBERS, TypeError)])
+def test_the_number_of_an_error_must_be_an_integer_of_32_bits(numbers, error):
+    for number in numbers:
+        with pytest.raises(error, match="error"):
             error_to_str(number)
 
 
-@of_each_limit
-def test_a_limit_must_be_an_integer_of_32_bits_or_of_64_for_the_work(name, most):
-    for number in (number for number in (*TOO_MUCH, most + 1) if not 0 <= number <= most):
-        with pytest.raises(ValueError, match=f"^{name} is"):
-            Limits(**{name: number})
-    for number in NO_NUMBERS:
-        with pytest.raises(TypeError, match=f"'{name}'"):
-            Limits(**{name: number})
-    for number in (0, 1, most):
-        assert getattr(Limits(**{name: number}), name) == number
-
-
-@pytest.mark.parametrize("name", [*dataclasses.asdict(DEFAULT_LIMITS), "another"])
-def test_limits_cannot_be_changed(name):
-    limits = PasswordHasher().limits
-    with pytest.raises(AttributeError, match=f"'{name}'"):
-        setattr(limits, name, 1000)
-    with pytest.raises(AttributeError, match=f"'{name}'"):
-        delattr(limits, name)
-    assert limits == DEFAULT_LIMITS == PasswordHasher().limits
-
-
-def test_limits_with_equal_fields_are_equal_also_after_copying_and_pickling():
-    limits = Limits(memory_cost=1, time_cost=2, parallelism=3, work=4)
-    for other in (Limits(1, 2, 3, 4), copy.copy(limits), copy.deepcopy(limits), pickle.loads(pickle.dumps(limits))):
-        assert (other, hash(other)) == (limits, hash(limits))
-    assert repr(limits) == "Limits(memory_cost=1, time_cost=2, parallelism=3, work=4)"
-    others = Limits(0, 2, 3, 4), Limits(1, 0, 3, 4), Limits(1, 2, 0, 4), Limits(1, 2, 3), (1, 2, 3, 4), None
-    assert limits not in others
-
-
-def test_limits_and_parameters_are_dataclasses():
-    with pytest.raises(ValueError):
-        dataclasses.replace(Limits(1, 2, 3, 4), time_cost=-1)
-    assert [field.name for field in dataclasses.fields(Parameters)] == [
-        "type", "version", "salt_len", "hash_len", "time_cost", "memory_cost", "parallelism"]
-    with pytest.raises(TypeError):
-        hash(profiles.OWASP)
+@pytest.mark.parametrize("name, bits", BITS.items())
+def test_a_limit_must_be_an_integer_of_32_bits_or_of_64_for_the_work(name, bits):
+    wrong = [(number, ValueError, f"{name}.* is") for number in (-1, 1 << bits, (1 << bits) + 2048, 2048 - (1 << bits))]
+    wrong += [(number, TypeError, f"'{name}' must be int, not") for number in NO_NUMBERS]
+    for number, error, words in wrong:
+        for call in takers(Limits(**{name: number})):
+            with pytest.raises(error, match=words):
+                call()
+    most = (1 << bits) - 1
+    assert getattr(PasswordHasher(limits=Limits(**{name: most})).limits, name) == most
 
 
 @pytest.mark.parametrize("limits", [(1, 2, 3, 4), 1, "x", profiles.OWASP])
 def test_limits_of_a_wrong_type_are_rejected(limits):
-    for call in (lambda: PasswordHasher(limits=limits), lambda: setattr(PasswordHasher(), "limits", limits),
-                 lambda: PasswordHasher.from_parameters(profiles.OWASP, limits=limits),
-                 lambda: verify_secret(TEXT.encode(), b"password", Type.ID, limits=limits)):
-        with pytest.raises(TypeError, match="'limits'"):
+    for call in takers(limits):
+        with pytest.raises(TypeError, match="'limits' must be Limits or None, not"):
             call()
+
+
+def test_limits_can_be_copied_and_replaced_but_not_changed():
+    limits = Limits(memory_cost=1, time_cost=2, parallelism=3, work=4)
+    assert limits == Limits(1, 2, 3, 4) == copy.deepcopy(limits) == pickle.loads(pickle.dumps(limits))
+    assert limits._replace(work=5) == Limits(1, 2, 3, 5) != limits
+    assert repr(limits) == "Limits(memory_cost=1, time_cost=2, parallelism=3, work=4)"
+    for name in (*BITS, "another"):
+        with pytest.raises(AttributeError):
+            setattr(DEFAULT_LIMITS, name, 1000)
 
 
 def test_the_limits_of_a_hasher_can_be_set():
     hasher = PasswordHasher()
+    for limits in (Limits(memory_cost=1 << 16, time_cost=3), None):
+        hasher.limits = limits
+        assert hasher.limits == limits and PasswordHasher().limits == DEFAULT_LIMITS
     hasher.limits = Limits(time_cost=3)
     with pytest.raises(TooCostlyError):
         hasher.verify(TEXT, "password")
-    assert PasswordHasher().limits == DEFAULT_LIMITS
-    hasher.limits = None
-    assert hasher.limits is None
 
 
 @pytest.mark.parametrize("settings", [LARGE, {**LARGE, "time_cost": 1}, {**LARGE, "parallelism": 1}])
 def test_a_hasher_verifies_its_own_hashes_above_the_default_limits(settings):
-    for hasher in (PasswordHasher(**settings), PasswordHasher(**settings, keep_memory=True),
-                   PasswordHasher.from_parameters(of_settings(settings))):
+    for hasher in (PasswordHasher(**settings), PasswordHasher.from_parameters(of_settings(settings))):
         assert hasher.verify(hasher.hash("password"), "password") is True
 
 
 def test_the_default_limits_are_those_of_the_library_raised_to_the_settings():
-    number = default_limits()
+    number, most = default_limits(), 0xFFFFFFFF
     defaults = Limits(number.mem_cost, number.time_cost, number.lanes, number.work)
     assert DEFAULT_LIMITS == defaults
     small = {"memory_cost": 8, "time_cost": 1, "parallelism": 1}
     for name in small:
-        limit, most = getattr(defaults, name), 0xFFFFFFFF
+        limit = getattr(defaults, name)
         for number, expected in ((1, limit), (limit, limit), (limit + 1, limit + 1), (most, most), (1 << 40, most)):
             limits = PasswordHasher(**{**small, name: number}).limits
-            assert limits == dataclasses.replace(defaults, **{name: expected}, work=limits.work)
-    for time_cost in (1, 2, 3, defaults.time_cost):
-        within = defaults.work // time_cost
-        for memory_cost, work in ((within, defaults.work), (within + 1, (within + 1) * time_cost)):
-            assert PasswordHasher(memory_cost=memory_cost, time_cost=time_cost).limits.work == work
+            assert limits == defaults._replace(**{name: expected, "work": limits.work})
     for memory_cost, time_cost, work in (
-        (0xFFFFFFFF, 0xFFFFFFFF, 0xFFFFFFFF ** 2), (1 << 40, 1 << 1000, 0xFFFFFFFF ** 2),
-        (-(1 << 40), -(1 << 40), defaults.work),
+        (defaults.work // 2, 2, defaults.work), (defaults.work // 2 + 1, 2, defaults.work + 2),
+        (1 << 40, 1 << 1000, most ** 2), (-(1 << 40), -(1 << 40), defaults.work),
     ):
         assert PasswordHasher(memory_cost=memory_cost, time_cost=time_cost).limits.work == work
 
 
-@pytest.mark.parametrize("limits", [Limits(memory_cost=1024, time_cost=3), Limits(time_cost=3), None])
-def test_limits_that_are_passed_stay_as_they_are(limits):
-    hashers = [PasswordHasher(**SETTINGS, limits=limits),
-               PasswordHasher.from_parameters(of_settings(SETTINGS), limits=limits, keep_memory=True)]
-    assert [(hasher.limits, hasher.keep_memory) for hasher in hashers] == [(limits, False), (limits, True)]
-
-
-@pytest.mark.parametrize("name, own", [
-    ("memory_cost", 1024), ("time_cost", 3), ("parallelism", 4), ("work", 3 * 1024)])
+@pytest.mark.parametrize("name, own", [*OWN.items(), ("work", 3 * 1024)])
 def test_limits_below_the_hasher_s_own_settings_are_rejected(name, own):
     """Otherwise it could not verify its own hashes."""
-    settings = {"time_cost": 3, "memory_cost": 1024, "parallelism": 4}
-    least = Limits(memory_cost=1024, time_cost=3, parallelism=4, work=3 * 1024)
-    hasher = PasswordHasher(**settings, limits=least)
+    least = Limits(**OWN, work=3 * 1024)
+    hasher = PasswordHasher(**OWN, limits=least)
     assert hasher.verify(hasher.hash("password"), "password") is True
-    below = dataclasses.replace(least, **{name: own - 1})
-    words = f"^the limit {name}={own - 1} is below this hasher's own {name}, {own}: "
-    for call in (lambda: PasswordHasher(**settings, limits=below), lambda: setattr(hasher, "limits", below),
-                 lambda: PasswordHasher.from_parameters(of_settings(settings), limits=below)):
-        with pytest.raises(ValueError, match=words):
+    below = least._replace(**{name: own - 1})
+    for call in (lambda: PasswordHasher(**OWN, limits=below), lambda: setattr(hasher, "limits", below),
+                 lambda: PasswordHasher.from_parameters(of_settings(OWN), limits=below)):
+        with pytest.raises(ValueError, match=f"^the limit {name}={own - 1} is below this hasher's own {name}, {own}: "):
             call()
     assert hasher.limits == least
 

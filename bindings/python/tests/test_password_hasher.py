@@ -1,25 +1,24 @@
 """`PasswordHasher` and the older calls, with the names, defaults and results of argon2-cffi."""
 import base64
+import copy
+import dataclasses
 import inspect
 import pickle
 import re
 import subprocess
 import sys
 import unicodedata
-from dataclasses import replace
 from pathlib import Path
 from unittest import mock
 
 import proved_argon2
 import pytest
 from proved_argon2 import (
-    DEFAULT_LIMITS,
     Parameters,
     PasswordHasher,
     PepperedHasher,
     Type,
     _library,
-    _password_hasher,
     extract_parameters,
     hash_password,
     hash_password_raw,
@@ -43,63 +42,42 @@ TOP = Path(__file__).resolve().parents[3]
 SMALL = {"time_cost": 1, "memory_cost": 32, "parallelism": 2}
 TEXT = "$argon2i$v=19$m=256,t=2,p=1$c29tZXNhbHQ$iekCn0Y3spW+sCcFanM2xBT63UP2sghkUoHLIUpWRS8"
 OTHER = {**SMALL, "time_cost": 2}
+INPUTS = b"password", b"somesalt", *SMALL.values(), 32, Type.ID
+HASHER = PasswordHasher(**SMALL)
 OLD_CALLS = hash_password, hash_password_raw, verify_password
-# The library's calls that make a hash.
-OF_A_HASH = "check", "encoded_len", "hash_encoded_with"
 of_the_old_calls = pytest.mark.filterwarnings("ignore:.* is deprecated:DeprecationWarning")
 
 
 @pytest.mark.parametrize("keep_memory", [False, True])
-def test_a_password_matches_only_with_the_secret_of_its_hash(keep_memory):
+def test_a_password_matches_only_with_the_secret_and_the_associated_data_of_its_hash(keep_memory):
     hasher = PasswordHasher(**SMALL, secret=b"pepper", keep_memory=keep_memory)
-    text = hasher.hash("password", salt=b"somesalt")
-    arguments = b"password", b"somesalt", *SMALL.values(), 32, Type.ID
-    assert text == low_level.hash_secret(*arguments, key=b"pepper").decode()
-    others = pickle.loads(pickle.dumps(hasher)), PasswordHasher.from_parameters(profiles.OWASP, secret=b"pepper")
-    assert all(other.verify(text, "password") for other in (hasher, *others))
-    wrong = PasswordHasher(), PasswordHasher(secret=b"Pepper"), hasher
-    for other, password in zip(wrong, ("password", "password", "Password")):
-        with pytest.raises(VerifyMismatchError):
-            other.verify(text, password)
+    text = hasher.hash("password", salt=b"somesalt", associated_data=b"user 7")
+    assert text == low_level.hash_secret(*INPUTS, key=b"pepper", associated_data=b"user 7").decode()
+    renewing, data = PasswordHasher(**OTHER, secret=b"pepper"), {"associated_data": b"user 7"}
+    is_match, new = renewing.verify_and_update(text, "password", **data)
+    assert is_match and renewing.verify_and_update(new, "password", **data) == (True, None)
+    copied = pickle.loads(pickle.dumps(hasher))
+    for other in (hasher, copied, PasswordHasher.from_parameters(profiles.OWASP, secret=b"pepper")):
+        for stored in (text, new):
+            assert other.verify(stored, "password", **data) is True
+    for other, password, given in (
+            (hasher, "Password", data), (hasher, "password", {}), (hasher, "password", {"associated_data": b"user 8"}),
+            (PasswordHasher(), "password", data), (PasswordHasher(secret=b"Pepper"), "password", data)):
+        for stored in (text, new):
+            with pytest.raises(VerifyMismatchError):
+                other.verify(stored, password, **given)
+            assert other.verify_and_update(stored, password, **given) == (False, None)
 
 
-def test_the_constructor_has_the_arguments_of_argon2_cffi_and_three_more():
-    arguments = inspect.signature(PasswordHasher).parameters
-    assert [(name, argument.default) for name, argument in arguments.items()] == [
-        ("time_cost", 3), ("memory_cost", 65536), ("parallelism", 4), ("hash_len", 32), ("salt_len", 16),
-        ("encoding", "utf-8"), ("type", Type.ID), ("limits", DEFAULT_LIMITS), ("keep_memory", False), ("secret", b"")]
+def test_the_defaults_are_those_of_argon2_cffi():
     assert PasswordHasher()._parameters == profiles.RFC_9106_LOW_MEMORY
     text = PasswordHasher().hash("password", salt=b"somesalt")
     assert text.startswith("$argon2id$v=19$m=65536,t=3,p=4$c29tZXNhbHQ$")
     assert PasswordHasher().verify(text, "password") is True
 
 
-def test_a_password_matches_only_with_the_associated_data_of_its_hash():
-    hasher, other = PasswordHasher(**SMALL, secret=b"pepper"), PasswordHasher(**OTHER, secret=b"pepper")
-    text = hasher.hash("password", salt=b"somesalt", associated_data=b"user 7")
-    arguments = b"password", b"somesalt", *SMALL.values(), 32, Type.ID
-    assert text == low_level.hash_secret(*arguments, key=b"pepper", associated_data=b"user 7").decode()
-    assert hasher.verify(text, "password", associated_data=b"user 7") is True
-    is_match, new = other.verify_and_update(text, "password", associated_data=b"user 7")
-    assert is_match and other.verify_and_update(new, "password", associated_data=b"user 7") == (True, None)
-    for data in ({}, {"associated_data": b"user 8"}):
-        assert other.verify_and_update(text, "password", **data) == (False, None)
-        for stored in (text, new):
-            with pytest.raises(VerifyMismatchError):
-                hasher.verify(stored, "password", **data)
-
-
-@pytest.mark.parametrize("data", ["user 7", None, bytearray(b"user 7"), 7])
-def test_associated_data_that_is_not_bytes_is_rejected(data):
-    hasher = PasswordHasher(**SMALL)
-    for call in (lambda: hasher.hash("password", associated_data=data),
-                 lambda: hasher.verify(TEXT, "password", associated_data=data),
-                 lambda: hasher.verify_and_update(TEXT, "password", associated_data=data)):
-        with pytest.raises(TypeError, match="^'associated_data' must be bytes, not "):
-            call()
-
-
 def arguments(call):
+    """Return the names, kinds and defaults of a call's arguments, for which the page says `text` in place of `hash`."""
     return [(name.replace("hash", "text"), argument.kind, argument.default)
             for name, argument in inspect.signature(call).parameters.items() if name != "self"]
 
@@ -114,12 +92,12 @@ def test_the_page_shows_the_arguments_and_defaults_of_each_call(name, call):
     assert arguments(names["documented"]) == arguments(call)
 
 
-def test_the_exceptions_have_the_base_classes_of_argon2_cffi():
-    for error, above in ((VerifyMismatchError, VerificationError), (VerificationError, Argon2Error),
-                         (HashingError, Argon2Error), (InvalidHashError, ValueError), (BusyError, Argon2Error),
-                         (TooCostlyError, VerificationError), (UnknownPepperError, VerificationError)):
-        assert issubclass(error, above)
-    assert InvalidHash is InvalidHashError
+@pytest.mark.parametrize("error, above", [
+    (VerifyMismatchError, VerificationError), (VerificationError, Argon2Error), (HashingError, Argon2Error),
+    (InvalidHashError, ValueError), (BusyError, Argon2Error), (TooCostlyError, VerificationError),
+    (UnknownPepperError, VerificationError), (InvalidHash, InvalidHashError)])
+def test_the_exceptions_have_the_base_classes_of_argon2_cffi(error, above):
+    assert issubclass(error, above)
 
 
 @pytest.mark.parametrize("variant", Type)
@@ -135,11 +113,19 @@ def test_repr_shows_the_settings_but_not_the_secret():
         "type=<Type.ID: 2>, limits=None, keep_memory=True)")
 
 
-def test_default_parameters_can_be_changed_without_changing_the_profile():
+def test_parameters_can_be_changed_and_copied_and_are_a_dataclass_as_in_argon2_cffi():
+    """`get_default_parameters` returns a copy of the profile."""
     changed = profiles.get_default_parameters()
-    assert changed == profiles.RFC_9106_LOW_MEMORY
+    assert changed == profiles.RFC_9106_LOW_MEMORY == pickle.loads(pickle.dumps(changed)) == copy.copy(changed)
     changed.salt_len = 8
     assert (changed.salt_len, profiles.RFC_9106_LOW_MEMORY.salt_len) == (8, 16)
+    assert repr(changed) == ("Parameters(type=<Type.ID: 2>, version=19, salt_len=8, hash_len=32, time_cost=3, "
+                             "memory_cost=65536, parallelism=4)")
+    assert dataclasses.replace(changed, salt_len=16) == profiles.RFC_9106_LOW_MEMORY
+    assert dataclasses.asdict(changed) == vars(changed) and [*vars(changed)] == [
+        field.name for field in dataclasses.fields(Parameters)]
+    with pytest.raises(TypeError):
+        hash(changed)
 
 
 @pytest.mark.parametrize("wrong, words", [
@@ -164,11 +150,10 @@ def test_profiles_have_the_values_of_the_library_s_presets(profile, name, lanes)
         Type(found.variant), found.version, 16, found.hash_length, found.time_cost, found.mem_cost, lanes)
 
 
-def test_the_other_profiles_have_the_values_of_argon2_cffi():
-    assert profiles.PRE_21_2 == replace(
-        profiles.OWASP, time_cost=2, memory_cost=102400, parallelism=8, hash_len=16, salt_len=16)
-    assert profiles.CHEAPEST == replace(
-        profiles.OWASP, time_cost=1, memory_cost=8, parallelism=1, hash_len=4, salt_len=8)
+@pytest.mark.parametrize("profile, values", [
+    (profiles.PRE_21_2, (Type.ID, 19, 16, 16, 2, 102400, 8)), (profiles.CHEAPEST, (Type.ID, 19, 8, 4, 1, 8, 1))])
+def test_the_other_profiles_have_the_values_of_argon2_cffi(profile, values):
+    assert profile == Parameters(*values)
 
 
 @of_the_old_calls
@@ -189,34 +174,25 @@ def test_the_salt_is_from_urandom_unless_it_is_passed():
                 call()
 
 
-@of_the_old_calls
-def test_the_deprecated_calls_hash_and_verify():
-    text, raw = (call(b"password", b"somesalt", **SMALL, hash_len=24, type=Type.ID) for call in OLD_CALLS[:2])
-    assert text == low_level.hash_secret(b"password", b"somesalt", 1, 32, 2, 24, Type.ID)
-    assert text.decode().split("$")[5] == base64.b64encode(raw).decode().rstrip("=")
-    assert verify_password(text, b"password", Type.ID) is True
-    with pytest.raises(VerifyMismatchError):
-        verify_password(text, b"Password", Type.ID)
-    with pytest.raises(VerificationError):
-        verify_password(text, b"password")
-
-
-def test_the_deprecated_calls_have_the_arguments_and_defaults_of_argon2_cffi():
-    for call in OLD_CALLS[:2]:
-        arguments = inspect.signature(call).parameters
-        assert list(arguments) == "password salt time_cost memory_cost parallelism hash_len type".split()
-        assert [argument.default for argument in arguments.values()][1:] == [None, 3, 65536, 4, 32, Type.I]
-    assert str(inspect.signature(verify_password)).split(" ->")[0].count("Type.I") == 1
-
-
-def test_the_deprecated_calls_warn_in_the_words_of_argon2_cffi_at_the_caller_s_line():
-    inputs = b"password", b"somesalt", 1, 32, 2
-    text = low_level.hash_secret(*inputs, 16, Type.I)
-    for call, arguments in zip(OLD_CALLS, (inputs, inputs, (text, b"password"))):
+def test_the_deprecated_calls_hash_and_verify_and_warn_in_the_words_of_argon2_cffi_at_the_caller_s_line():
+    def warned(call, *arguments, **named):
         words = f"^argon2.{call.__name__} is deprecated, use argon2.PasswordHasher instead$"
-        with pytest.warns(DeprecationWarning, match=words) as warned:
-            call(*arguments)
-        assert warned[0].filename == __file__
+        with pytest.warns(DeprecationWarning, match=words) as warnings:
+            answer = call(*arguments, **named)
+        assert warnings[0].filename == __file__
+        return answer
+
+    text, raw = (warned(call, *INPUTS[:2], **SMALL, hash_len=24, type=Type.ID) for call in OLD_CALLS[:2])
+    assert text == low_level.hash_secret(*INPUTS[:5], 24, Type.ID)
+    assert text.decode().split("$")[5] == base64.b64encode(raw).decode().rstrip("=")
+    assert warned(verify_password, text, b"password", Type.ID) is True
+    for wrong, error in (((text, b"Password", Type.ID), VerifyMismatchError), ((text, b"password"), VerificationError)):
+        with pytest.raises(error), pytest.warns(DeprecationWarning):
+            verify_password(*wrong)
+    for call in OLD_CALLS[:2]:
+        assert [(name, argument.default) for name, argument in inspect.signature(call).parameters.items()][1:] == [
+            ("salt", None), ("time_cost", 3), ("memory_cost", 65536), ("parallelism", 4), ("hash_len", 32),
+            ("type", Type.I)]
 
 
 def run_module(*words):
@@ -253,31 +229,33 @@ def test_verify_accepts_the_password_and_rejects_another_one(variant):
             hasher.verify(text, "Password")
 
 
-@pytest.mark.parametrize("password", [
-    b"", b"\0", b"pass\0word", b" pass\n", b"\xff\xfe", bytes(range(256)), b"\xff" * (1 << 20)])
-def test_any_bytes_can_be_a_password(password):
-    hasher = PasswordHasher(**SMALL)
-    text = hasher.hash(password)
-    assert hasher.verify(text, password) is True
-    with pytest.raises(VerifyMismatchError):
-        hasher.verify(text, b"pass")
+def test_any_bytes_can_be_a_password_and_a_str_is_encoded_without_normalizing_it():
+    hasher, latin = PasswordHasher(**SMALL), PasswordHasher(**SMALL, encoding="latin-1")
+    forms = [unicodedata.normalize(form, "pässwörd ﬁ \u212b\n") for form in ("NFC", "NFD", "NFKC", "NFKD")]
+    for password in (b"", b"\0", b"pass\0word", bytes(range(256)), b"\xff" * (1 << 20), *forms):
+        text, same = hasher.hash(password), password.encode() if isinstance(password, str) else password
+        assert hasher.verify(text, same) is hasher.verify(hasher.hash(same), password) is True
+        with pytest.raises(VerifyMismatchError):
+            hasher.verify(text, b"pass")
+    assert hasher.verify(latin.hash("\xe9"), b"\xe9") and latin.verify(hasher.hash(b"\xe9"), "\xe9")
+    for call in (lambda: latin.hash("\u20ac"), lambda: hasher.hash("\ud800"), lambda: hasher.verify(TEXT, "\ud800")):
+        with pytest.raises(UnicodeEncodeError):
+            call()
 
 
-def test_a_str_is_encoded_without_normalizing_it():
-    latin, utf8 = PasswordHasher(**SMALL, encoding="latin-1"), PasswordHasher(**SMALL)
-    assert utf8.verify(latin.hash("\xe9"), b"\xe9") and latin.verify(utf8.hash(b"\xe9"), "\xe9")
-    with pytest.raises(UnicodeEncodeError):
-        latin.hash("\u20ac")
-    for form in ("NFC", "NFD", "NFKC", "NFKD"):
-        password = unicodedata.normalize(form, "pässwörd ﬁ \u212b\n")
-        assert utf8.verify(utf8.hash(password), password.encode())
-        assert utf8.verify(utf8.hash(password.encode()), password)
-
-
-@pytest.mark.parametrize("password", [None, 1, bytearray(b"password")])
-def test_a_password_that_is_neither_str_nor_bytes_is_rejected(password):
-    with pytest.raises(TypeError, match="'password'"):
-        PasswordHasher(**SMALL).hash(password)
+@pytest.mark.parametrize("wrong", [None, 5, ["x"], bytearray(TEXT.encode())])
+@pytest.mark.parametrize("name, calls", {
+    "password": (HASHER.hash, lambda wrong: HASHER.verify(TEXT, wrong), HASHER.verify_unknown),
+    "hash": (lambda wrong: HASHER.verify(wrong, "x"), lambda wrong: HASHER.verify_and_update(wrong, "x"),
+             HASHER.check_needs_rehash, extract_parameters),
+    "associated_data": (lambda wrong: HASHER.hash("x", associated_data=wrong),
+                        lambda wrong: HASHER.verify(TEXT, "x", associated_data=wrong),
+                        lambda wrong: HASHER.verify_and_update(TEXT, "x", associated_data=wrong))}.items())
+def test_an_input_of_a_wrong_type_is_named_in_the_error(name, calls, wrong):
+    """A user without a password may have the hash `None`."""
+    for call in calls:
+        with pytest.raises(TypeError, match=f"^'{name}' must be (str or )?bytes, not {wrong.__class__.__name__}$"):
+            call(wrong)
 
 
 def test_extract_parameters_reads_each_setting():
@@ -295,17 +273,10 @@ def test_check_needs_rehash_and_verify_and_update_compare_each_setting():
         hasher = PasswordHasher(**{**today, name: value})
         assert hasher.check_needs_rehash(TEXT), name
         is_match, new = hasher.verify_and_update(TEXT, "password")
-        assert is_match and not hasher.check_needs_rehash(new), name
+        assert is_match and hasher.verify(new, "password") and not hasher.check_needs_rehash(new), name
+        assert hasher.verify_and_update(new, "password") == (True, None), name
+        assert hasher.verify_and_update(TEXT, "Password") == (False, None), name
     assert PasswordHasher(**today).verify_and_update(TEXT, "password") == (True, None)
-
-
-def test_verify_and_update_renews_a_hash_with_other_settings_for_the_right_password_only():
-    hasher, old = PasswordHasher(**SMALL), PasswordHasher(**OTHER).hash("password")
-    is_match, new = hasher.verify_and_update(old, "password")
-    assert is_match is hasher.verify(new, "password") is True and not hasher.check_needs_rehash(new)
-    assert hasher.verify_and_update(new, "password") == (True, None)
-    for text in (new, old):
-        assert hasher.verify_and_update(text, "Password") == (False, None)
 
 
 @pytest.mark.parametrize("error", [HashingError("Out of memory"), MemoryError()])
@@ -315,31 +286,11 @@ def test_verify_and_update_accepts_the_password_if_the_new_hash_cannot_be_comput
         assert PasswordHasher(**SMALL).verify_and_update(old, "password") == (True, None)
 
 
-class Denied:
-    """Stands in for the type of a parameter when memory runs out while `ctypes` converts an argument."""
-
-    @staticmethod
-    def from_param(_):
-        raise MemoryError
-
-
-@pytest.mark.parametrize("name, call, expected", [
-    *((name, lambda hasher, old: hasher.hash("password"), HashingError) for name in OF_A_HASH),
-    *((name, lambda hasher, old: hasher.verify_and_update(old, "password"), (True, None)) for name in OF_A_HASH),
-    *((name, lambda hasher, old: hasher.verify(old, "Password"), VerificationError)
-      for name in ("verify_encoded_with", "message")),
-    ("password_verify_unknown", lambda hasher, old: hasher.verify_unknown("password"), VerificationError),
-    ("read", lambda hasher, old: extract_parameters(old), MemoryError)])
-def test_memory_that_is_denied_to_ctypes_has_run_out(monkeypatch, name, call, expected):
-    old, (types, result) = PasswordHasher(**OTHER).hash("password"), _library._CALLS[name]
-    monkeypatch.setitem(_library._CALLS, name, ([Denied, *types[1:]], result))
-    monkeypatch.setattr(_library, "_library", _library._load())
-    if isinstance(expected, tuple):
-        assert call(PasswordHasher(**SMALL), old) == expected
-    else:
-        with pytest.raises(expected, match="^Out of memory$") as raised:
-            call(PasswordHasher(**SMALL), old)
-        assert raised.type is expected
+@pytest.mark.parametrize("error", [MemoryError, OverflowError])
+def test_a_hash_that_does_not_fit_into_memory_raises_hashing_error(error):
+    with mock.patch("ctypes.create_string_buffer", side_effect=error):
+        with pytest.raises(HashingError, match="^Out of memory$"):
+            HASHER.hash("password")
 
 
 @of_the_old_calls
@@ -354,35 +305,15 @@ def test_the_right_password_is_accepted_and_no_hash_is_made_if_the_system_makes_
                 call()
 
 
-@pytest.mark.parametrize("text, error", [
-    ("x", InvalidHashError), ("$argon2id$x", VerificationError),
-    (TEXT.replace("m=256", "m=4294967295"), TooCostlyError)])
-def test_verify_and_update_raises_the_errors_of_verify(text, error):
-    with pytest.raises(error):
-        PasswordHasher(**SMALL).verify_and_update(text, "password")
-
-
 @pytest.mark.parametrize("settings", [
-    SMALL, {**OTHER, "type": Type.I, "salt_len": 9, "hash_len": 5}, {**SMALL, "type": Type.D, "salt_len": 10},
+    {**OTHER, "type": Type.I, "salt_len": 9, "hash_len": 5},
     {"time_cost": 11, "memory_cost": 160, "parallelism": 20, "hash_len": 4, "salt_len": 8}])
-def test_verify_unknown_computes_a_hash_with_the_same_settings_and_returns_false(settings):
+def test_verify_unknown_computes_each_slice_of_a_hash_and_returns_false(settings):
     """A login of a user who does not exist then takes as long as one of a user who does."""
     hasher, slices = PasswordHasher(**settings, secret=b"pepper"), []
-    with mock.patch.object(_password_hasher, "verify_unknown", side_effect=_library.verify_unknown) as call:
-        for password in ("password", b"", "x" * 1000):
-            assert hasher.verify_unknown(password, progress=lambda *progress: slices.append(progress)) is False
+    for password in ("password", b"", "x" * 1000):
+        assert hasher.verify_unknown(password, progress=lambda *progress: slices.append(progress)) is False
     assert slices == 3 * [(done, 4 * hasher.time_cost) for done in range(1, 4 * hasher.time_cost + 1)]
-    for passed, *_ in (arguments for arguments, _ in call.call_args_list):
-        found = [getattr(passed, name) for name, _ in passed._fields_]
-        assert found == [
-            hasher.type.value, 19, hasher.memory_cost, hasher.time_cost, hasher.parallelism, hasher.hash_len]
-
-
-@pytest.mark.parametrize("name", ["time_cost", "memory_cost", "parallelism", "hash_len"])
-def test_verify_unknown_rejects_settings_that_no_hash_can_have(name):
-    for number in (0, -1, 1 << 32, (1 << 32) + 64):
-        with pytest.raises(VerificationError):
-            PasswordHasher(**{**SMALL, name: number}).verify_unknown("password")
 
 
 def test_verify_unknown_raises_other_errors_and_stops():
@@ -390,30 +321,9 @@ def test_verify_unknown_raises_other_errors_and_stops():
         raise KeyboardInterrupt
 
     with pytest.raises(KeyboardInterrupt):
-        PasswordHasher(**SMALL).verify_unknown("password", progress=stop)
-    with pytest.raises(TypeError, match="'password'"):
-        PasswordHasher(**SMALL).verify_unknown(None)
+        HASHER.verify_unknown("password", progress=stop)
     with pytest.raises(VerificationError, match="^Out of memory$"):
         PasswordHasher(memory_cost=0xFFFFFFFF).verify_unknown("password")
-
-
-@pytest.mark.parametrize("hash", [None, 5, bytearray(TEXT.encode()), ["x"]])
-def test_a_hash_that_is_neither_str_nor_bytes_is_rejected(hash):
-    """A user without a password may have `None`."""
-    hasher = PasswordHasher()
-    for call in (hasher.verify, hasher.verify_and_update):
-        with pytest.raises(TypeError, match="^'hash' must be str or bytes, not "):
-            call(hash, "password")
-    for call in (hasher.check_needs_rehash, extract_parameters):
-        with pytest.raises(TypeError, match="^'hash' must be str or bytes, not "):
-            call(hash)
-
-
-def test_a_password_with_a_lone_surrogate_is_rejected():
-    hasher = PasswordHasher(**SMALL)
-    for call in (lambda: hasher.hash("\ud800"), lambda: hasher.verify(TEXT, "\ud800")):
-        with pytest.raises(UnicodeEncodeError):
-            call()
 
 
 def require_verification_error(text):
@@ -427,8 +337,8 @@ def require_verification_error(text):
     "", "x", "$argon2x" + TEXT[8:], b"\xff", "\xe9", "\ud800", "$" * (1 << 20), " " + TEXT, "\n" + TEXT],
     ids=lambda text: repr(text[:9]))
 def test_a_string_that_does_not_begin_as_an_encoded_hash_is_invalid(text):
-    for call in (PasswordHasher().check_needs_rehash, extract_parameters,
-                 lambda text: PasswordHasher().verify(text, "password")):
+    for call in (HASHER.check_needs_rehash, extract_parameters, lambda text: HASHER.verify(text, "password"),
+                 lambda text: HASHER.verify_and_update(text, "password")):
         with pytest.raises(InvalidHashError):
             call(text)
     require_verification_error(text)

@@ -22,7 +22,7 @@ from proved_argon2.exceptions import (
 )
 
 SMALL = {"time_cost": 1, "memory_cost": 64, "parallelism": 2}
-PEPPERS = {"2026": b"new", "2025": b"old"}
+PEPPERS, DATA = {"2026": b"new", "2025": b"old"}, {"associated_data": b"user 7"}
 
 
 def hash_with(key):
@@ -31,21 +31,30 @@ def hash_with(key):
     return low_level.hash_secret(**settings, key=key).decode()
 
 
-def test_new_hashes_have_the_newest_pepper():
+def test_new_hashes_have_the_newest_pepper_and_match_only_with_it():
     hasher = PepperedHasher(PEPPERS, **SMALL)
-    key_id, encoded = hasher.hash("password")
-    assert key_id == hasher.newest == "2026" and PasswordHasher(secret=b"new").verify(encoded, "password")
-    assert hasher.verify_and_update(key_id, encoded, "password") == (True, None)
-    assert hasher.verify_and_update(key_id, encoded, "Password") == (False, None)
+    key_id, encoded = hasher.hash("password", **DATA)
+    assert key_id == hasher.newest == "2026" and PasswordHasher(secret=b"new").verify(encoded, "password", **DATA)
+    assert hasher.verify_and_update(key_id, encoded, "password", **DATA) == (True, None)
+    for other, password, data in (
+            ("2026", "Password", DATA), ("2026", "password", {"associated_data": b"user 8"}), ("2026", "password", {}),
+            ("2025", "password", DATA)):
+        assert hasher.verify_and_update(other, encoded, password, **data) == (False, None)
+    assert hasher.verify_and_update("2026", hash_with(b""), "password") == (False, None)
     with pytest.raises(VerifyMismatchError):
-        PasswordHasher().verify(encoded, "password")
+        PasswordHasher().verify(encoded, "password", **DATA)
 
 
 def test_a_hash_with_an_older_pepper_is_renewed_for_the_right_password_only():
-    hasher, encoded = PepperedHasher(PEPPERS, **SMALL), hash_with(b"old")
-    assert hasher.verify_and_update("2025", encoded, "Password") == (False, None)
-    is_match, (key_id, renewed) = hasher.verify_and_update("2025", encoded, "password")
-    assert (is_match, key_id) == (True, "2026") and PasswordHasher(secret=b"new").verify(renewed, "password")
+    hasher = PepperedHasher(PEPPERS, **SMALL)
+    old = PasswordHasher(**SMALL, secret=b"old").hash("password", **DATA)
+    assert hasher.verify_and_update("2025", old, "Password", **DATA) == (False, None)
+    is_match, (key_id, renewed) = hasher.verify_and_update("2025", old, "password", **DATA)
+    assert (is_match, key_id) == (True, "2026")
+    assert PasswordHasher(secret=b"new").verify(renewed, "password", **DATA) is True
+    for error in (OSError, NotImplementedError):  # The system makes no salt.
+        with mock.patch("os.urandom", side_effect=error):
+            assert hasher.verify_and_update("2025", old, "password", **DATA) == (True, None)
 
 
 @pytest.mark.parametrize("variant", Type)
@@ -64,30 +73,6 @@ def test_from_parameters_takes_the_other_arguments():
         PEPPERS, extract_parameters(hash_with(b"")), accept_unpeppered=True, limits=limits, keep_memory=True)
     assert (hasher.hasher.limits, hasher.hasher.keep_memory) == (limits, True)
     assert hasher.verify_and_update(None, hash_with(b""), "password")[0] is True
-
-
-def test_a_password_matches_only_with_the_associated_data_of_its_hash():
-    hasher = PepperedHasher(PEPPERS, **SMALL)
-    key_id, encoded = hasher.hash("password", associated_data=b"user 7")
-    assert hasher.verify_and_update(key_id, encoded, "password", associated_data=b"user 7") == (True, None)
-    assert hasher.verify_and_update(key_id, encoded, "password", associated_data=b"user 8") == (False, None)
-    assert hasher.verify_and_update(key_id, encoded, "password") == (False, None)
-    old = PasswordHasher(**SMALL, secret=b"old").hash("password", associated_data=b"user 7")
-    is_match, (key_id, renewed) = hasher.verify_and_update("2025", old, "password", associated_data=b"user 7")
-    assert is_match and PasswordHasher(secret=b"new").verify(renewed, "password", associated_data=b"user 7")
-
-
-def test_a_hash_is_not_renewed_if_the_system_makes_no_salt():
-    hasher = PepperedHasher(PEPPERS, **SMALL)
-    for error in (OSError, NotImplementedError):
-        with mock.patch("os.urandom", side_effect=error):
-            assert hasher.verify_and_update("2025", hash_with(b"old"), "password") == (True, None)
-
-
-def test_a_hash_does_not_match_with_the_pepper_of_another_id():
-    hasher = PepperedHasher(PEPPERS, **SMALL)
-    assert hasher.verify_and_update("2026", hash_with(b"old"), "password") == (False, None)
-    assert hasher.verify_and_update("2026", hash_with(b""), "password") == (False, None)
 
 
 @pytest.mark.parametrize("key_id", [None, "2024", "", "None"])

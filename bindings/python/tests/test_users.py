@@ -27,8 +27,7 @@ settings.configure(PASSWORD_HASHERS=[
     "__main__.Proved", "django.contrib.auth.hashers.PBKDF2PasswordHasher", "__main__.Argon2WithMoreMemory",
 ])
 from django.contrib.auth.hashers import (
-    Argon2PasswordHasher, PBKDF2PasswordHasher, check_password, get_hasher, identify_hasher, is_password_usable,
-    make_password,
+    Argon2PasswordHasher, check_password, get_hasher, identify_hasher, is_password_usable, make_password,
 )
 
 class Proved(Argon2PasswordHasher):
@@ -61,16 +60,10 @@ def run(*pieces):
 
 @needs("django")
 @pytest.mark.parametrize("piece", ["""
-for password in ("l\\xe8tmein", "", " ", "a" * 4096):
-    text = make_password(password, hasher="argon2")
-    assert text.startswith("argon2$argon2id$v=19$m=512,t=2,p=2$"), text
-    assert is_password_usable(text) and identify_hasher(text).algorithm == "argon2"
-    assert check_password(password, text) is True
-    assert check_password(password + "z", text) is False
-""", """
 hasher = get_hasher("argon2")
 text = make_password("secret", hasher="argon2")
-assert not hasher.must_update(text)
+assert text.startswith("argon2$argon2id$v=19$m=512,t=2,p=2$") and not hasher.must_update(text)
+assert is_password_usable(text) and identify_hasher(text).algorithm == "argon2"
 setter = mock.Mock()
 assert check_password("secret", text, setter) and not setter.called
 for name, value in (("time_cost", 3), ("memory_cost", 1024), ("parallelism", 1)):
@@ -89,7 +82,7 @@ for rest, password in (
     assert check_password("x" + password, "argon2$" + rest) is False
     assert get_hasher("argon2").must_update("argon2$" + rest)
     assert get_hasher("argon2").safe_summary("argon2$" + rest)
-"""], ids=["right and wrong passwords", "current and other settings", "hashes of argon2i"])
+"""], ids=["current and other settings", "hashes of argon2i"])
 def test_django_hashes_and_verifies(piece):
     run(DJANGO, piece)
 

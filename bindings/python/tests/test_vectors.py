@@ -87,7 +87,6 @@ def test_the_tags_are_those_of_rfc_9106(variant, tag):
 
 def test_errors_have_messages_and_only_bytes_are_accepted():
     assert (error_to_str(0), error_to_str(5)) == ("No error", "Salt is too short")
-    assert "12345" in error_to_str(12345)
     text = hash_secret(b"password", b"somesalt", 1, 8, 1, 32, Type.ID)
     with pytest.raises(VerificationError):
         verify_secret(text, b"password", Type.I)

@@ -63,7 +63,7 @@ class AsyncPasswordHasher(_AsyncCalls):
     free.
 
     The memory of a hash is kept for the next one, unless that needs more than a hash of `hasher`. Each hash clears what
-    it used, and the event loop frees memory that has been idle for ten seconds.
+    it used, and memory that has been idle for ten seconds is freed.
 
     Several event loops and threads may share an `AsyncPasswordHasher`. A forked child may use it too: the child has
     threads of its own, and calls of the parent take none of its places.

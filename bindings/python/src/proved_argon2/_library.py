@@ -1,7 +1,12 @@
-"""Loads the shared library, and makes its calls over `bytes`."""
+"""Loads the shared library, and makes its calls over `bytes`.
+
+The library checks, reads, computes and compares. This package translates arguments, results and errors, and adds what
+a service in Python needs: a queue for asyncio, and peppers with IDs.
+"""
 import ctypes
 import os
 import sys
+import threading
 
 TYPE_CHECKING = False
 if TYPE_CHECKING:
@@ -14,13 +19,12 @@ if TYPE_CHECKING:
 SONAME = "libproved_argon2.so.1"
 VARIABLE = "PROVED_ARGON2_LIBRARY"
 
-# Numbers that calls return. OK also means that a password matches, and UNKNOWN_NUMBER is no error's number.
+# Numbers that calls return. OK also means that a password matches.
 OK = 0
 DECODING_FAIL = 19
 OUT_OF_MEMORY = 20
 MISMATCH = 64
 NOT_ASCII = 66
-UNKNOWN_NUMBER = 67
 NEEDS_REHASH = 68
 TOO_COSTLY = 69
 
@@ -70,7 +74,6 @@ class Options(ctypes.Structure):
     """The header's `proved_argon2_options`."""
 
     _fields_ = [
-        # options, by .ci/pages/presets
         ("size", ctypes.c_size_t),
         ("threads", ctypes.c_uint32),
         ("memory", ctypes.c_void_p),
@@ -81,17 +84,15 @@ class Options(ctypes.Structure):
         ("new_settings", ctypes.POINTER(Settings)),
         ("buffers", ctypes.c_void_p),
         ("new_salt_len", ctypes.c_size_t),
-        # end
     ]
 
 
 class Refused(Exception):
     """The library returned an error's number. NOT_ASCII, for a byte above 127, counts as an invalid encoded hash."""
 
-    def __init__(self, number: int, said: "Optional[str]" = None) -> None:
-        number = DECODING_FAIL if number == NOT_ASCII else number
-        super().__init__(message(number) if said is None else said)
-        self.number = number
+    def __init__(self, number: int) -> None:
+        self.number = DECODING_FAIL if number == NOT_ASCII else number
+        super().__init__(message(self.number))
 
 
 def _files() -> "Iterator[str]":
@@ -127,24 +128,8 @@ _CALLS: "Dict[str, Tuple[List[Any], Any]]" = {
     "tune": (
         [ctypes.POINTER(Options), *_SETTINGS, ctypes.c_uint64, ctypes.POINTER(Tuned)], ctypes.c_uint32),
     "message": ([ctypes.c_uint32], ctypes.c_char_p),
-    "check": ([*_SETTINGS, *4 * [ctypes.c_uint64]], ctypes.c_uint32),
     "library_version": ([], ctypes.c_uint32),
 }
-
-
-def _with_memory_errors(call: "Callable[..., Any]") -> "Callable[..., Any]":
-    """Return a call that raises `Refused` if memory runs out while `ctypes` converts its arguments.
-
-    `ctypes` raises `ArgumentError` then, and for no other reason, since all arguments have the types of `_CALLS`.
-    """
-
-    def made(*arguments: "Any") -> "Any":
-        try:
-            return call(*arguments)
-        except ctypes.ArgumentError:  # The library's message would need a call, which might fail in the same way.
-            raise Refused(OUT_OF_MEMORY, "Out of memory") from None
-
-    return made
 
 
 def _load() -> ctypes.CDLL:
@@ -156,7 +141,6 @@ def _load() -> ctypes.CDLL:
             for name, types in _CALLS.items():
                 call = getattr(library, f"proved_argon2_{name}")
                 call.argtypes, call.restype = types
-                setattr(library, f"proved_argon2_{name}", _with_memory_errors(call))
         except (OSError, AttributeError) as error:
             reasons.append(str(error))
             continue
@@ -183,16 +167,24 @@ def require_number(name: str, number: object, error: "Type[Exception]", bits: in
         raise error(f"{name} is {number}, which is not a number of {bits} bits")
 
 
+def require_bytes(**pieces: bytes) -> "Tuple[bytes, ...]":
+    """Return the arguments. Raise `TypeError` with the name of one that is not `bytes`."""
+    for name, piece in pieces.items():
+        if not isinstance(piece, bytes):
+            raise TypeError(f"'{name}' must be bytes, not {piece.__class__.__name__}")
+    return (*pieces.values(),)
+
+
 def _length(piece: bytes) -> int:
     """Return the number of bytes, even if a subclass defines another length."""
     return bytes.__len__(piece)
 
 
-def _slices(pieces: "Sequence[bytes]") -> "List[Union[bytes, int]]":
+def _with_lengths(pieces: "Sequence[bytes]") -> "List[Union[bytes, int]]":
     """Return each piece followed by its length, as the library takes them."""
     arguments: "List[Union[bytes, int]]" = []
     for piece in pieces:
-        arguments += [piece, _length(piece)]
+        arguments += piece, _length(piece)
     return arguments
 
 
@@ -222,57 +214,28 @@ class Stop:
             raise CancelledError
 
 
-class ProgressCallback:
-    """The progress callback of a call. It calls `progress` and lets the handlers of signals run. An exception
-    of either stops the call, and is raised at the end of the `with` block.
+def _answers(
+    progress: "Optional[Progress]", slices: int, raised: "List[BaseException]"
+) -> "Generator[int, object, None]":
+    """Yield what the callback of a call returns: 0 to go on, or 1 to stop after an exception, which `raised` gets.
 
-    `slices` returns the number of all slices. It is called only if the library computes, and somebody needs to know.
-
-    The callback resumes a generator, because Python runs handlers when it resumes one, and then the generator's `try`
-    catches what they raise. In a function, handlers would run before the first line, and their exceptions be lost.
+    A callback is a generator's `send`, because Python runs the handlers of signals when it resumes a generator. Then
+    the `try` catches what they raise. In a function, handlers would run before the first line, and their exceptions be
+    lost. So the generator first has to be started.
     """
-
-    def __init__(self, progress: "Optional[Progress]", slices: "Callable[[], int]") -> None:
-        self._raised: "List[BaseException]" = []
-        self._is_entered = False
-        self._generator = self._answers(progress, slices)
-        next(self._generator)
-        self.send = self._generator.send
-
-    def _answers(
-        self, progress: "Optional[Progress]", slices: "Callable[[], int]"
-    ) -> "Generator[int, object, None]":
-        """Yield 1 to stop the call and 0 to go on: once before the call, and then once for each slice."""
-        done = 0
-        try:
-            yield 0
-            while True:
-                done += 1
-                if progress is not None:
-                    progress(done, 0 if isinstance(progress, Stop) else slices())
-                yield 0
-        except BaseException as error:
-            if not self._is_entered:  # Python is closing the generator.
-                raise
-            self._raised.append(error)
+    done = 0
+    try:
         while True:
-            yield 1
-
-    def __enter__(self) -> "ProgressCallback":
-        self._is_entered = True
-        return self
-
-    def __exit__(self, *_: object) -> None:
-        self._is_entered = False
-        self._generator.close()  # It and this object would keep each other, with what `progress` has.
-        if self._raised:
-            raise self._raised.pop()
-
-
-def _runs_handlers() -> bool:
-    """Return whether Python runs the handlers of signals in this thread, which it does in the main thread only."""
-    threading = sys.modules.get("threading")
-    return threading is None or threading.get_ident() == threading.main_thread().ident
+            yield 0
+            done += 1
+            if progress is not None:
+                progress(done, slices)
+    except GeneratorExit:
+        return
+    except BaseException as error:
+        raised.append(error)
+    while True:
+        yield 1
 
 
 def _compute(
@@ -281,19 +244,26 @@ def _compute(
     arguments: "Sequence[Any]",
     memory: "Optional[Memory]",
     progress: "Optional[Progress]",
-    slices: "Callable[[], int]",
+    slices: int,
 ) -> int:
-    """Make a call, in kept buffers if there is a `memory`, and return its number.
+    """Make a call of so many slices, in kept buffers if there is a `memory`, and return its number.
 
     It has a callback only if something can stop it: without one, the proved code computes a whole hash of one lane.
+    Python runs the handlers of signals, which may raise an exception, in the main thread only.
     """
     if memory is not None:
         options.buffers = memory.handle
-    if progress is None and not _runs_handlers():
+    if progress is None and threading.get_ident() != threading.main_thread().ident:
         return int(call(options, *arguments))
-    with ProgressCallback(progress, slices) as callback:
-        options.progress = _Progress(callback.send)
-        return int(call(options, *arguments))
+    raised: "List[BaseException]" = []
+    answers = _answers(progress, slices, raised)
+    next(answers)
+    options.progress = _Progress(answers.send)
+    number = int(call(options, *arguments))
+    answers.close()  # Otherwise it would stay in memory, since `options` refers to it.
+    if raised:
+        raise raised.pop()
+    return number
 
 
 def hash_pieces(
@@ -305,17 +275,16 @@ def hash_pieces(
 ) -> bytes:
     """Return the tag, or the encoded hash, of four pieces: password, salt, secret and associated data.
 
-    The library checks the settings first, before any memory is allocated, and uses a thread for each lane.
+    The library uses a thread for each lane.
     """
-    _require(_library.proved_argon2_check(settings, *map(_length, pieces)))
     if is_encoded:
         call = _library.proved_argon2_hash_encoded_with
         out = _buffer(_library.proved_argon2_encoded_len(settings, _length(pieces[1])) + 1)
     else:
         call = _library.proved_argon2_hash_raw_with
         out = _buffer(settings.hash_length)
-    options, arguments = _options(settings.lanes), [*_slices(pieces), settings, out, len(out)]
-    _require(_compute(call, options, arguments, memory, progress, lambda: int(SLICES * settings.time_cost)))
+    options, arguments = _options(settings.lanes), [*_with_lengths(pieces), settings, out, len(out)]
+    _require(_compute(call, options, arguments, memory, progress, SLICES * settings.time_cost))
     return out.value if is_encoded else out.raw
 
 
@@ -337,9 +306,10 @@ def verify_pieces(
         options.limits = ctypes.pointer(limits)
     if new is not None:
         options.new_settings, options.new_salt_len = ctypes.pointer(new[0]), new[1]
-    call = _library.proved_argon2_verify_encoded_with
-    number = _compute(
-        call, options, _slices(pieces), memory, progress, lambda: int(SLICES * read(pieces[0]).settings.time_cost))
+    call, slices = _library.proved_argon2_verify_encoded_with, 0
+    if progress is not None:
+        slices = SLICES * read(pieces[0]).settings.time_cost
+    number = _compute(call, options, _with_lengths(pieces), memory, progress, slices)
     if new is not None and number == NEEDS_REHASH:
         return True
     _require(number)
@@ -351,8 +321,8 @@ def verify_unknown(
 ) -> None:
     """Compute a hash with these settings, which takes as long as verifying one. Raises `Refused` if that fails."""
     call, options = _library.proved_argon2_password_verify_unknown, _options(MAX_NUMBER)
-    arguments = [settings, *_slices((password, secret))]
-    number = _compute(call, options, arguments, memory, progress, lambda: int(SLICES * settings.time_cost))
+    arguments = [settings, *_with_lengths((password, secret))]
+    number = _compute(call, options, arguments, memory, progress, SLICES * settings.time_cost)
     if number != MISMATCH:
         raise Refused(number)
 
@@ -361,7 +331,7 @@ def tuned(most: Settings, nanoseconds: int, progress: "Optional[Progress]") -> "
     """Search for settings with at most the memory of `most`. Return `None` if none is fast enough."""
     found = Tuned()
     call, options = _library.proved_argon2_tune, _options(most.lanes)
-    number = _compute(call, options, [most, nanoseconds, found], None, progress, lambda: 0)
+    number = _compute(call, options, [most, nanoseconds, found], None, progress, 0)
     if number == TOO_COSTLY:
         return None
     _require(number)
@@ -380,9 +350,9 @@ def buffers_new(memory_cost: int, most: int) -> int:
     return handle.value or 0
 
 
-def buffers_free_idle(handle: "Optional[int]") -> int:
-    """Free idle buffers of a handle. Return the milliseconds until the next one can be freed, or 0 if none is idle."""
-    return int(_library.proved_argon2_buffers_free_idle(handle))
+def buffers_free_idle(handle: "Optional[int]") -> None:
+    """Free the buffers of a handle that have been idle for ten seconds."""
+    _library.proved_argon2_buffers_free_idle(handle)
 
 
 def buffers_free(handle: "Optional[int]", library: ctypes.CDLL = _library) -> None:

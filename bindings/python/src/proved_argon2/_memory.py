@@ -33,11 +33,9 @@ class Memory:
         except Refused as refused:
             raise HashingError(str(refused)) from None
 
-    def free_idle(self) -> float:
-        """Free the buffers that have been idle for ten seconds. Return in how many seconds the next one will have been,
-        or 0 if none is idle.
-        """
-        return buffers_free_idle(self.handle) / 1000
+    def free_idle(self) -> None:
+        """Free the buffers that have been idle for ten seconds."""
+        buffers_free_idle(self.handle)
 
     def __reduce__(self) -> "Tuple[Type[Memory], Tuple[int, int]]":
         return Memory, (self.memory_cost, self.most)

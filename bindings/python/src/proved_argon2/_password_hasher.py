@@ -2,16 +2,31 @@
 import os
 import warnings
 
-from ._library import DECODING_FAIL, Refused, Settings, read, require_number, verify_pieces, verify_unknown
+from ._library import (
+    DECODING_FAIL,
+    Refused,
+    Settings,
+    read,
+    require_bytes,
+    require_number,
+    verify_pieces,
+    verify_unknown,
+)
 from ._memory import Memory, current_thread
-from ._settings import DEFAULT_LIMITS, Limits, Parameters, default_limits_of, require_own_settings_within
+from ._settings import (
+    DEFAULT_LIMITS,
+    Limits,
+    Parameters,
+    default_limits_of,
+    numbers_of,
+    require_own_settings_within,
+)
 from .exceptions import HashingError, InvalidHashError, VerificationError, VerifyMismatchError
 from .low_level import (
     ARGON2_VERSION,
     Type,
     hash_secret,
     hash_secret_raw,
-    numbers_of,
     reading_error,
     verify_secret,
     verifying_error,
@@ -92,7 +107,7 @@ class PasswordHasher:
     and pickles of the hasher contain the secret, but its `repr` does not.
     """
 
-    __slots__ = ("_limits", "_memory", "_parameters", "_secret", "encoding")
+    __slots__ = ("_limits", "_memory", "_numbers", "_parameters", "_secret", "encoding")
 
     def __init__(
         self,
@@ -117,6 +132,7 @@ class PasswordHasher:
         self.encoding = encoding
         if limits is DEFAULT_LIMITS:
             self._limits: "Optional[Limits]" = default_limits_of(memory_cost, time_cost, parallelism)
+            self._numbers = numbers_of(self._limits)
         else:
             self.limits = limits
         self._memory = Memory(memory_cost) if keep_memory else None
@@ -179,11 +195,10 @@ class PasswordHasher:
 
     @limits.setter
     def limits(self, limits: "Optional[Limits]") -> None:
-        if limits is not None and not isinstance(limits, Limits):
-            raise TypeError(f"'limits' must be Limits or None, not {limits.__class__.__name__}")
+        numbers = numbers_of(limits)
         if limits is not None:
             require_own_settings_within(limits, self.memory_cost, self.time_cost, self.parallelism)
-        self._limits = limits
+        self._limits, self._numbers = limits, numbers
 
     def __repr__(self) -> str:
         names = ("time_cost", "memory_cost", "parallelism", "hash_len", "salt_len", "encoding", "type", "limits")
@@ -301,12 +316,12 @@ class PasswordHasher:
         As in argon2-cffi, a string that does not begin as an encoded hash raises `InvalidHashError`, and all other
         strings that cannot be decoded raise `VerificationError`.
         """
-        require_types(associated_data=(associated_data, bytes))
+        require_bytes(associated_data=associated_data)
         encoded, secret = _encoded_bytes(hash), self._password_bytes(password)
         pieces, new = (encoded, secret, self._secret, associated_data), (hasher._settings(), hasher.salt_len)
         try:
             has_others = verify_pieces(
-                pieces, numbers_of(self.limits), self._memory or current_thread.memory, progress, new)
+                pieces, self._numbers, self._memory or current_thread.memory, progress, new)
         except Refused as refused:
             if refused.number == DECODING_FAIL and not encoded.startswith(_BEGINNINGS):
                 raise InvalidHashError(str(refused)) from None

@@ -1,18 +1,33 @@
 """The settings of a hash, and the limits of what an encoded hash may cost."""
-from dataclasses import astuple, dataclass, fields
+from collections import namedtuple
+from types import SimpleNamespace
 
-from ._library import MAX_NUMBER, default_limits, require_number
+from ._library import MAX_NUMBER, NumberLimits, default_limits, require_number
 
 TYPE_CHECKING = False
 if TYPE_CHECKING:
+    from typing import Any, Dict, Optional, Tuple
+    from typing import Type as Class
+
     from .low_level import Type
 
 
-@dataclass
-class Parameters:
+class _Fields:
+    """The attribute by which the functions of `dataclasses` know the fields of a class. It is made when one of them
+    reads it, since importing `dataclasses` takes as long as importing this package.
+    """
+
+    def __get__(self, record: object, kind: type) -> "Dict[str, Any]":
+        from dataclasses import make_dataclass
+
+        fields: "Dict[str, Any]" = getattr(make_dataclass(kind.__name__, kind.__annotations__), "__dataclass_fields__")
+        return fields
+
+
+class Parameters(SimpleNamespace):
     """The settings of a hash: lengths are in bytes, and the memory is in KiB.
 
-    As in argon2-cffi, the fields can be changed: Django sets `salt_len`.
+    As in argon2-cffi, the fields can be changed (Django sets `salt_len`), and the functions of `dataclasses` accept it.
     """
 
     type: "Type"
@@ -23,29 +38,43 @@ class Parameters:
     memory_cost: int
     parallelism: int
 
+    __dataclass_fields__ = _Fields()
+
+    def __init__(
+        self,
+        type: "Type",
+        version: int,
+        salt_len: int,
+        hash_len: int,
+        time_cost: int,
+        memory_cost: int,
+        parallelism: int,
+    ) -> None:
+        super().__init__(
+            type=type, version=version, salt_len=salt_len, hash_len=hash_len, time_cost=time_cost,
+            memory_cost=memory_cost, parallelism=parallelism,
+        )
+
+    def __reduce__(self) -> "Tuple[Class[Parameters], Tuple[Any, ...]]":
+        return Parameters, (*vars(self).values(),)
+
 
 _DEFAULT = default_limits()
 
 
-@dataclass(frozen=True)
-class Limits:
+class Limits(namedtuple("Limits", ("memory_cost", "time_cost", "parallelism", "work"), defaults=(
+    _DEFAULT.mem_cost, _DEFAULT.time_cost, _DEFAULT.lanes, _DEFAULT.work,
+))):
     """The most memory in KiB, passes and lanes that a verified hash may name, and the most `work`.
 
     `work` is the memory in KiB times the passes. The time of a hash is proportional to it.
 
     The defaults are the library's: 2 GiB, 10 passes, 16 lanes, and the work of 4 GiB in one pass. The recommendations
-    of RFC 9106, OWASP, libsodium and Django are within these limits. The fields cannot be changed;
-    `dataclasses.replace` makes new `Limits`.
+    of RFC 9106, OWASP, libsodium and Django are within these limits. The fields cannot be changed; `_replace` makes new
+    `Limits`, as for each named tuple.
     """
 
-    memory_cost: int = _DEFAULT.mem_cost
-    time_cost: int = _DEFAULT.time_cost
-    parallelism: int = _DEFAULT.lanes
-    work: int = _DEFAULT.work
-
-    def __post_init__(self) -> None:
-        for field in fields(self):
-            require_number(field.name, getattr(self, field.name), ValueError, bits=64 if field.name == "work" else 32)
+    __slots__ = ()
 
 
 #: The limits of a `PasswordHasher` without the argument `limits`. It raises them to its own settings.
@@ -56,15 +85,25 @@ def default_limits_of(memory_cost: int, time_cost: int, parallelism: int) -> Lim
     """Return the default limits, raised to settings, so that a hasher can verify its own hashes."""
     memory, passes, lanes = (min(max(number, 0), MAX_NUMBER) for number in (memory_cost, time_cost, parallelism))
     own = (memory, passes, lanes, memory * passes)
-    return Limits(*(max(limit, number) for limit, number in zip(astuple(DEFAULT_LIMITS), own)))
+    return Limits(*(max(limit, number) for limit, number in zip(DEFAULT_LIMITS, own)))
+
+
+def numbers_of(limits: "Optional[Limits]") -> "Optional[NumberLimits]":
+    """Return limits as the library takes them, or `None`. Raises `ValueError` if one is no number of its size."""
+    if limits is None:
+        return None
+    if not isinstance(limits, Limits):
+        raise TypeError(f"'limits' must be Limits or None, not {limits.__class__.__name__}")
+    for name, number in zip(limits._fields, limits):
+        require_number(name, number, ValueError, bits=64 if name == "work" else 32)
+    return NumberLimits(*limits)
 
 
 def require_own_settings_within(limits: Limits, memory_cost: int, time_cost: int, parallelism: int) -> None:
     """Raise `ValueError` if a hasher with these settings and limits could not verify its own hashes."""
     own = (memory_cost, time_cost, parallelism, memory_cost * time_cost)
-    for field, limit, number in zip(fields(limits), astuple(limits), own):
+    for name, limit, number in zip(limits._fields, limits, own):
         if number > limit:
             raise ValueError(
-                f"the limit {field.name}={limit} is below this hasher's own {field.name}, {number}: "
-                "it could not verify its hashes"
+                f"the limit {name}={limit} is below this hasher's own {name}, {number}: it could not verify its hashes"
             )

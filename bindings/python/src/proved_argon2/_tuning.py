@@ -1,6 +1,5 @@
 """A search for strong settings that this machine computes in a given time."""
-import os
-from dataclasses import dataclass
+from types import SimpleNamespace
 
 from ._library import Refused, Settings, require_number, tuned
 from ._password_hasher import DEFAULT_MEMORY_COST
@@ -20,18 +19,11 @@ _NANOSECONDS = 10**6  # of a millisecond
 _MOST_MILLISECONDS = 10**9  # eleven days
 
 
-@dataclass
-class Tuning:
-    """The settings that `tune` found.
-
-    `parameters` are the settings. `milliseconds` is the time of a hash with them, the shortest of several. `load` is
-    the number of programs that ran at once in the last minute, or `None` if the system does not tell: other
-    programs make hashes slower.
-    """
+class Tuning(SimpleNamespace):
+    """The settings that `tune` found, and the time of a hash with them, the shortest of several."""
 
     parameters: Parameters
     milliseconds: float
-    load: "Optional[float]"
 
 
 def tune(milliseconds: float, memory_cost: int = DEFAULT_MEMORY_COST, parallelism: int = 1) -> Tuning:
@@ -75,5 +67,4 @@ def _search(
     own = found.settings
     parameters = Parameters(
         Type(own.variant), own.version, OWASP.salt_len, own.hash_length, own.time_cost, own.mem_cost, own.lanes)
-    load = os.getloadavg()[0] if hasattr(os, "getloadavg") else None
-    return Tuning(parameters, found.nanoseconds / _NANOSECONDS, load)
+    return Tuning(parameters=parameters, milliseconds=found.nanoseconds / _NANOSECONDS)

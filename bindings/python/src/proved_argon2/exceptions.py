@@ -33,7 +33,7 @@ class HashingError(Argon2Error):
 class BusyError(Argon2Error):
     """The `AsyncPasswordHasher` cannot take another call now; try again later.
 
-    All places to compute and wait are taken, the system denied the only thread, or Python is ending.
+    All places to compute and wait are taken, or the system denied the only thread.
     """
 
 

@@ -10,7 +10,6 @@ A hash uses at most one thread for each lane, the caller's among them, and at mo
 it raises an exception, the call stops, clears its memory and raises the same. The same happens to a call in the main
 thread if a signal handler raises, as Ctrl-C does with `KeyboardInterrupt`.
 """
-from dataclasses import astuple
 from enum import Enum
 
 from ._library import (
@@ -18,18 +17,17 @@ from ._library import (
     MISMATCH,
     OUT_OF_MEMORY,
     TOO_COSTLY,
-    UNKNOWN_NUMBER,
-    NumberLimits,
     Refused,
     Settings,
     hash_pieces,
     message,
     read,
+    require_bytes,
     require_number,
     verify_pieces,
 )
 from ._memory import Memory, current_thread
-from ._settings import Limits
+from ._settings import Limits, numbers_of
 from .exceptions import (
     Argon2Error,
     HashingError,
@@ -73,12 +71,6 @@ class Type(Enum):
     """Argon2id: memory accesses do not depend on the password in the first half of the first pass."""
 
 
-def _require_bytes(**pieces: bytes) -> None:
-    for name, piece in pieces.items():
-        if not isinstance(piece, bytes):
-            raise TypeError(f"'{name}' must be bytes, not {piece.__class__.__name__}")
-
-
 def hash_secret(
     secret: bytes,
     salt: bytes,
@@ -101,9 +93,9 @@ def hash_secret(
 
     Raises `HashingError` if the settings are rejected or memory cannot be allocated.
     """
-    _require_bytes(secret=secret, salt=salt, key=key, associated_data=associated_data)
+    pieces = require_bytes(secret=secret, salt=salt, key=key, associated_data=associated_data)
     numbers = (version, memory_cost, time_cost, parallelism, hash_len)
-    return _hash(True, (secret, salt, key, associated_data), numbers, type, memory, progress)
+    return _hash(True, pieces, numbers, type, memory, progress)
 
 
 def hash_secret_raw(
@@ -125,9 +117,9 @@ def hash_secret_raw(
 
     Raises `HashingError` if the settings are rejected or memory cannot be allocated.
     """
-    _require_bytes(secret=secret, salt=salt, key=key, associated_data=associated_data)
+    pieces = require_bytes(secret=secret, salt=salt, key=key, associated_data=associated_data)
     numbers = (version, memory_cost, time_cost, parallelism, hash_len)
-    return _hash(False, (secret, salt, key, associated_data), numbers, type, memory, progress)
+    return _hash(False, pieces, numbers, type, memory, progress)
 
 
 def _hash(
@@ -167,15 +159,12 @@ def verify_secret(
     `VerificationError` if `hash` is not an encoded hash of this type, its settings are rejected or memory cannot be
     allocated.
     """
-    _require_bytes(hash=hash, secret=secret, key=key, associated_data=associated_data)
+    pieces = require_bytes(hash=hash, secret=secret, key=key, associated_data=associated_data)
     numbers = numbers_of(limits)
     try:
         if read(hash).settings.variant != Type(type).value:
             raise Refused(DECODING_FAIL)
-    except Refused as refused:
-        raise VerificationError(str(refused)) from None
-    try:
-        verify_pieces((hash, secret, key, associated_data), numbers, memory or current_thread.memory, progress)
+        verify_pieces(pieces, numbers, memory or current_thread.memory, progress)
     except Refused as refused:
         raise verifying_error(refused) from None
     return True
@@ -187,23 +176,10 @@ def verifying_error(refused: Refused) -> VerificationError:
     return errors.get(refused.number, VerificationError)(str(refused))
 
 
-def numbers_of(limits: "Optional[Limits]") -> "Optional[NumberLimits]":
-    """Return limits as the library takes them, or `None`."""
-    if limits is None:
-        return None
-    if not isinstance(limits, Limits):
-        raise TypeError(f"'limits' must be Limits, not {limits.__class__.__name__}")
-    return NumberLimits(*astuple(limits))
-
-
 def error_to_str(error: int) -> str:
     """Return the message of an error's number. The numbers are this library's, not those of libargon2."""
-    try:
-        require_number("error", error, ValueError)
-    except ValueError:
-        return f"There is no error {error}"
-    said = message(error)
-    return said if said != message(UNKNOWN_NUMBER) else f"There is no error {error}"
+    require_number("error", error, ValueError)
+    return message(error)
 
 
 def reading_error(refused: Refused) -> Exception:

@@ -3,8 +3,6 @@
 As in argon2-cffi, `RFC_9106_LOW_MEMORY` is the default of `PasswordHasher`. It uses four threads for its four lanes.
 `OWASP` is from OWASP's Password Storage Cheat Sheet, and uses one thread.
 """
-from dataclasses import replace
-
 from ._settings import Parameters
 from .low_level import ARGON2_VERSION, Type
 
@@ -40,4 +38,4 @@ CHEAPEST = _profile(time_cost=1, memory_cost=8, parallelism=1, salt_len=8, hash_
 
 def get_default_parameters() -> Parameters:
     """Return the settings of `PasswordHasher()`, `RFC_9106_LOW_MEMORY`, as a copy that can be changed."""
-    return replace(RFC_9106_LOW_MEMORY)
+    return Parameters(**vars(RFC_9106_LOW_MEMORY))
