@@ -4,10 +4,8 @@
 //! length of what is passed as `*mut`, and keeps no pointer. The pointer of a slice is never null.
 
 mod calls;
-mod process;
 mod salt;
 
-pub use process::Process;
 pub use salt::new_salt;
 
 use crate::{Config, Limits};
@@ -70,7 +68,6 @@ pub struct Tuning {
 /// `proved_argon2_options` of the header.
 #[repr(C)]
 pub struct Options {
-    // options, by .ci/pages/presets
     size: usize,
     threads: u32,
     memory: *mut c_void,
@@ -81,7 +78,6 @@ pub struct Options {
     new_settings: *const Settings,
     buffers: *mut c_void,
     new_salt_len: usize,
-    // end
 }
 
 /// What the caller provides: a buffer or kept buffers, without which the call allocates memory; and a progress
@@ -96,7 +92,6 @@ pub struct Extras<'call, 'a> {
 impl Options {
     /// The values of fields that an initializer in C leaves out.
     const NONE: Options = Options {
-        // no options, by .ci/pages/presets
         size: 0,
         threads: 0,
         memory: null_mut(),
@@ -107,7 +102,6 @@ impl Options {
         new_settings: null(),
         buffers: null_mut(),
         new_salt_len: 0,
-        // end
     };
 
     /// Options with this many threads. They point to what the caller provides, which has to outlive them.

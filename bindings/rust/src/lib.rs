@@ -75,7 +75,7 @@ pub use error::{Error, Result};
 pub use hashing::{encoded_len, hash_encoded, hash_password, hash_password_with, hash_raw};
 pub use limits::{Limits, Unverified};
 pub use line::{Busy, Enter, Line, Place};
-pub use memory::{hash_encoded_in, hash_raw_in, verify_encoded_in, verify_encoded_within_in, verify_raw_in, Memory};
+pub use memory::Memory;
 pub use peppers::Peppers;
 pub use run::Run;
 pub use service::{verify_and_update, verify_unknown};

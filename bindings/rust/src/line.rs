@@ -1,4 +1,4 @@
-use crate::ffi::{self, Buffers, Process, Settings};
+use crate::ffi::{self, Buffers, Settings};
 use crate::{Config, Run};
 use std::collections::VecDeque;
 use std::future::Future;
@@ -45,24 +45,19 @@ const IDLE: Duration = Duration::from_secs(10);
 ///
 /// # Fork
 ///
-/// In a forked child all places of the line are free and no caller waits, whatever the parent was doing. The child
-/// never uses a buffer in which a thread of its parent was computing. As with every lock, do not fork while another
-/// thread enters or leaves the line.
+/// Make the line after `fork`. In a forked child nobody gives back the places that threads of its parent hold.
 #[derive(Clone, Debug)]
 pub struct Line(Arc<Shared>);
 
 #[derive(Debug)]
 struct Shared {
     state: Mutex<State>,
-    concurrency: usize,
     waiting: usize,
     buffers: Buffers,
 }
 
 #[derive(Debug)]
 struct State {
-    /// The process in which this state is true.
-    process: Process,
     /// The places that nobody holds.
     free: usize,
     next_ticket: u64,
@@ -90,15 +85,14 @@ impl error::Error for Busy {}
 #[derive(Debug)]
 pub struct Place {
     line: Arc<Shared>,
-    process: Process,
 }
 
 /// The future that [`Line::enter`] returns. Dropping it leaves the line.
 #[derive(Debug)]
 pub struct Enter {
     line: Arc<Shared>,
-    /// The process and the number of a caller who waits.
-    ticket: Option<(Process, u64)>,
+    /// The number of a caller who waits.
+    ticket: Option<u64>,
 }
 
 impl Line {
@@ -145,9 +139,10 @@ impl Line {
 
     /// A line whose buffers are as large as hashes with these settings need.
     fn with_buffers(places: usize, waiting: usize, config: &Config<'_>) -> Line {
-        let concurrency = places.max(1);
-        let buffers = Buffers::new(&Settings::of(config), concurrency);
-        Line(Arc::new(Shared { state: Mutex::new(State::new(concurrency)), concurrency, waiting, buffers }))
+        let free = places.max(1);
+        let buffers = Buffers::new(&Settings::of(config), free);
+        let state = Mutex::new(State { free, next_ticket: 0, queue: VecDeque::new(), is_watched: false });
+        Line(Arc::new(Shared { state, waiting, buffers }))
     }
 }
 
@@ -158,22 +153,10 @@ impl Place {
     }
 }
 
-impl State {
-    fn new(free: usize) -> State {
-        State { process: Process::current(), free, next_ticket: 0, queue: VecDeque::new(), is_watched: false }
-    }
-}
-
 impl Shared {
-    /// The state, which is a new one in a forked child: the threads that hold places or wait are the parent's.
+    /// The state, also after a panic: no panic leaves it half changed.
     fn lock(&self) -> MutexGuard<'_, State> {
-        let mut state = self.state.lock().unwrap_or_else(|poisoned| poisoned.into_inner());
-        if state.process != Process::current() {
-            let parents = mem::replace(&mut *state, State::new(self.concurrency));
-            // (dropping a waker may call a runtime whose threads exist only in the parent)
-            mem::forget(parents.queue);
-        }
-        state
+        self.state.lock().unwrap_or_else(|poisoned| poisoned.into_inner())
     }
 
     /// Takes back a place, and gives it to the first in the queue, if there is one.
@@ -227,9 +210,7 @@ impl Wake for Unpark {
 
 impl Drop for Place {
     fn drop(&mut self) {
-        if self.process == Process::current() {
-            self.line.leave();
-        }
+        self.line.leave();
     }
 }
 
@@ -241,9 +222,8 @@ impl Future for Enter {
         // (the waker that remains is dropped after the lock: it may own a task that has a place of this line)
         let mut waker = context.waker().clone();
         let mut state = line.lock();
-        let process = state.process;
-        match self.ticket.filter(|ticket| ticket.0 == process) {
-            Some((_, ticket)) => {
+        match self.ticket {
+            Some(ticket) => {
                 if let Some(entry) = state.queue.iter_mut().find(|entry| entry.0 == ticket) {
                     mem::swap(&mut entry.1, &mut waker);
                     return Poll::Pending;
@@ -255,23 +235,20 @@ impl Future for Enter {
                 let ticket = state.next_ticket;
                 state.queue.push_back((ticket, waker));
                 state.next_ticket += 1;
-                self.ticket = Some((process, ticket));
+                self.ticket = Some(ticket);
                 return Poll::Pending;
             }
         }
         self.ticket = None;
         drop(state);
-        Poll::Ready(Ok(Place { line, process }))
+        Poll::Ready(Ok(Place { line }))
     }
 }
 
 impl Drop for Enter {
     fn drop(&mut self) {
-        if let Some((process, ticket)) = self.ticket {
+        if let Some(ticket) = self.ticket {
             let mut state = self.line.lock();
-            if state.process != process {
-                return; // the parent's queue is not here
-            }
             let index = state.queue.iter().position(|entry| entry.0 == ticket);
             let entry = index.and_then(|index| state.queue.remove(index));
             drop(state); // before the waker, which may own a task that has a place of this line

@@ -1,7 +1,6 @@
 use crate::ffi::{self, Settings, TOO_COSTLY};
 use crate::run::require_done;
 use crate::{Config, Result};
-use std::fs;
 use std::time::Duration;
 
 /// Settings that [`tune`] found.
@@ -12,9 +11,6 @@ pub struct Tuning<'a> {
 
     /// The time that a hash takes, the least of several.
     pub time: Duration,
-
-    /// The load of the machine in the last minute, if Linux reports it. Under load hashes take longer.
-    pub load: Option<f64>,
 }
 
 /// Finds strong settings whose hash takes at most this long on this machine: the memory of `config`, halved
@@ -47,18 +43,13 @@ pub fn tune<'a>(within: Duration, config: &Config<'a>) -> Result<Option<Tuning<'
     require_done(number)?;
     let Settings { mem_cost, time_cost, .. } = found.settings;
     let config = Config { mem_cost, time_cost, ..*config };
-    Ok(Some(Tuning { config, time: Duration::from_nanos(found.nanoseconds), load: load() }))
-}
-
-fn load() -> Option<f64> {
-    fs::read_to_string("/proc/loadavg").ok()?.split(' ').next()?.parse().ok()
+    Ok(Some(Tuning { config, time: Duration::from_nanos(found.nanoseconds) }))
 }
 
 #[cfg(test)]
 mod tests {
-    use super::{load, tune};
+    use super::tune;
     use crate::{Config, Error};
-    use std::path::Path;
     use std::time::Duration;
 
     #[test]
@@ -67,7 +58,6 @@ mod tests {
         let found = tune(Duration::from_secs(60), &most).unwrap().unwrap();
         assert!(found.time > Duration::ZERO && found.config.time_cost >= 3);
         assert_eq!(found.config, Config { time_cost: found.config.time_cost, ..most });
-        assert_eq!(load().is_some(), Path::new("/proc/loadavg").exists());
         assert_eq!(tune(Duration::ZERO, &most), Ok(None));
         let rejected = Config { lanes: 0, ..most };
         assert_eq!(tune(Duration::from_secs(1), &rejected), Err(Error::LanesTooFew));

@@ -1,27 +1,12 @@
 //! The values of settings, names, numbers, errors and limits, and how they convert.
 
 use proved_argon2::{
-    encoded_len, hash_encoded, hash_raw, needs_rehash, read, verify_encoded, verify_encoded_within, Config, Error,
-    Limits, Memory, ThreadMode, Unverified, Variant, Version,
+    hash_encoded, needs_rehash, read, verify_encoded, verify_encoded_within, Config, Error, Limits, Memory, ThreadMode,
+    Unverified, Variant, Version,
 };
 use std::error::Error as _;
 use Variant::{Argon2d, Argon2i, Argon2id};
 use Version::{Version10, Version13};
-
-#[test]
-fn hash_raw_computes_the_test_vectors_of_rfc_9106() {
-    let config = Config { time_cost: 3, mem_cost: 32, lanes: 4, secret: &[3; 8], ad: &[4; 12], ..Config::default() };
-    for (variant, tag) in [
-        (Argon2d, "512b391b6f1162975371d30919734294f868e3be3984f3c1a13a4db9fabe4acb"),
-        (Argon2i, "c814d9d1dc7f37aa13f0d77f2494bda1c8de6b016dd388d29952a4c4672b6ce8"),
-        (Argon2id, "0d640df58d78766c08c037a34a8b53c9d01ef0452d75b65eb52520e96b01e659"),
-    ] {
-        for thread_mode in [ThreadMode::Sequential, ThreadMode::Parallel, ThreadMode::AtMost(3)] {
-            let found = hash_raw(&[1; 32], &[2; 16], &Config { variant, thread_mode, ..config }).unwrap();
-            assert_eq!(found.iter().map(|byte| format!("{byte:02x}")).collect::<String>(), tag);
-        }
-    }
-}
 
 #[test]
 fn variants_convert_from_and_to_numbers_and_names() {
@@ -76,20 +61,6 @@ fn thread_modes_convert_from_numbers_and_limit_the_workers() {
             assert_eq!(found, (workers, workers == 1), "{thread_mode:?} {lanes}");
         }
     }
-}
-
-#[test]
-fn a_password_can_be_any_bytes() {
-    let config = Config { mem_cost: 256, ..Config::default() };
-    let all: Vec<u8> = (0..=255).collect();
-    let long = vec![0xff; 1 << 20];
-    for password in [&b""[..], b"\0", b"pass\0word", b" pass\n", b"\xff\xfe", &all, &long] {
-        let text = hash_encoded(password, &all, &config).unwrap();
-        assert_eq!(verify_encoded(&text, password), Ok(true));
-        assert_eq!(verify_encoded(&text, b"pass"), Ok(false));
-        assert_eq!(text.len() as u64, encoded_len(Argon2id, 256, 2, 1, 256, 32));
-    }
-    assert_eq!(encoded_len(Argon2id, u32::MAX, u32::MAX, u32::MAX, u32::MAX, u32::MAX), 11_453_246_175);
 }
 
 /// These strings cannot be written in a line of a file of vectors.

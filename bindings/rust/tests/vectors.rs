@@ -2,8 +2,7 @@
 //! prints these; $RANDOM_HASHES names the file that contains them.
 
 use proved_argon2::{
-    needs_rehash, read, verify_encoded, verify_encoded_in, Config, Error, Limits, Memory, Run, ThreadMode, Variant,
-    Version,
+    needs_rehash, read, verify_encoded, Config, Error, Limits, Memory, Run, ThreadMode, Variant, Version,
 };
 
 const RAW: &str = include_str!("../../vectors/raw.txt");
@@ -80,7 +79,8 @@ fn each_text_verifies_as_in_the_vectors() {
     let mut memory = Memory::new();
     for line in TEXTS.lines() {
         let (text, answer) = line.split_once('\t').unwrap();
-        let verdicts = [verify_encoded(text, b"password"), verify_encoded_in(&mut memory, text, b"password", &[], &[])];
+        let mut run = Run::new().over(&mut memory);
+        let verdicts = [verify_encoded(text, b"password"), run.verify_encoded(text, b"password", &[], &[])];
         for verdict in verdicts {
             let said = verdict.map_or_else(|error| answer_of(&error), |is_match| is_match.to_string());
             assert_eq!(said, answer, "{text}");

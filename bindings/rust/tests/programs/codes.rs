@@ -35,23 +35,17 @@ const HASH: &[u8] = b"hash";
 const KEY: &[u8] = b"key";
 const DATA: &[u8] = b"data";
 
-/// Returns the result of a call, which allocates its own memory, computes in a buffer, or is made by a `Run`.
+/// Returns the result of a call, which allocates its own memory or is made by a `Run`.
 fn call(name: &str, how: &str, memory: &mut Memory) -> Box<dyn Debug> {
     match (name, how) {
         ("hash_raw", "alone") => Box::new(hash_raw(WORD, SALT, &CONFIG)),
-        ("hash_raw", "over") => Box::new(hash_raw_in(memory, WORD, SALT, &CONFIG)),
         ("hash_encoded", "alone") => Box::new(hash_encoded(WORD, SALT, &CONFIG)),
-        ("hash_encoded", "over") => Box::new(hash_encoded_in(memory, WORD, SALT, &CONFIG)),
         ("verify_raw", "alone") => Box::new(verify_raw(WORD, SALT, HASH, &CONFIG)),
-        ("verify_raw", "over") => Box::new(verify_raw_in(memory, WORD, SALT, HASH, &CONFIG)),
         ("verify_encoded_alone", "alone") => Box::new(verify_encoded(TEXT, WORD)),
-        ("verify_encoded_alone", "over") => Box::new(verify_encoded_in(memory, TEXT, WORD, &[], &[])),
         ("verify_encoded", "alone") => Box::new(verify_encoded_ext(TEXT, WORD, KEY, DATA)),
-        ("verify_encoded", "over") => Box::new(verify_encoded_in(memory, TEXT, WORD, KEY, DATA)),
         ("verify_encoded_within", "alone") => Box::new(verify_encoded_within(TEXT, WORD, KEY, DATA, &LIMITS)),
-        ("verify_encoded_within", "over") => Box::new(verify_encoded_within_in(memory, TEXT, WORD, KEY, DATA, &LIMITS)),
         ("verify_unknown", "alone") => Box::new(verify_unknown(WORD, &CONFIG)),
-        ("verify_unknown", "over") => Box::new(Run::new().over(memory).verify_unknown(WORD, &CONFIG)),
+        ("verify_unknown", "over") => Box::new(run(how, memory).verify_unknown(WORD, &CONFIG)),
         ("verify_unknown", _) => {
             let config = Config { secret: b"no effect", ..CONFIG };
             Box::new(Peppers::new(&[("2026", KEY)], config).unwrap().verify_unknown(&mut Run::new(), WORD))
@@ -77,11 +71,13 @@ fn call(name: &str, how: &str, memory: &mut Memory) -> Box<dyn Debug> {
     }
 }
 
-/// A run of a place, or one without a progress callback, or with one that lets the call go on, stops it, or panics.
+/// A run of a place, one in a reusable buffer, or one without a progress callback, or with one that lets the call go
+/// on, stops it, or panics.
 fn run<'a>(how: &str, memory: &'a mut Memory) -> Run<'a> {
     match how {
         "line" => Box::leak(Box::new(Line::of(&CONFIG, 1 << 30).wait().unwrap())).run(),
         "run" => Run::new(),
+        "over" => Run::new().over(memory),
         "tells" => Run::new().with_progress(|done, all| if (done, all) == (1, 12) { Continue(()) } else { Break(()) }),
         "stops" => Run::new().with_progress(|_, _| Break(())).over(memory),
         _ => Run::new().over(memory).with_progress(|_, _| panic!("on")),

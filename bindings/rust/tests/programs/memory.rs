@@ -1,13 +1,13 @@
-//! Tests what calls of the crate leave of a password, and buffers, places and forked children of a `Line`. The linker
+//! Tests what calls of the crate leave of a password, and the buffers of a `Line`. The linker
 //! gives this program the library's call that makes a handle of kept buffers (`--wrap`), and the system's call that
 //! starts a thread. It can deny both, and counts the threads. codes.rs tests when a call allocates a buffer, and the
 //! library's own tests whether a call clears it.
 
 use argon2::password_hash::{PasswordHasher, PasswordVerifier};
-use argon2::{hash_encoded, hash_raw, hash_raw_in, verify_raw, Argon2, Config, Error, Line, Memory, ThreadMode};
+use argon2::{hash_encoded, hash_raw, verify_raw, Argon2, Config, Error, Line, Memory, Run, ThreadMode};
 use std::fs::{read_to_string, File};
 use std::io::Read;
-use std::sync::atomic::{AtomicBool, AtomicI32, AtomicUsize, Ordering::SeqCst};
+use std::sync::atomic::{AtomicBool, AtomicUsize, Ordering::SeqCst};
 use std::thread;
 use std::time::{Duration, Instant};
 
@@ -20,14 +20,10 @@ static THREADS: AtomicUsize = AtomicUsize::new(0);
 static ARE_THREADS_DENIED: AtomicBool = AtomicBool::new(false);
 const EAGAIN: i32 = 11;
 
-/// The process ID, in place of the system's.
-static ID: AtomicI32 = AtomicI32::new(1);
-
 extern "C" {
     fn __real_pthread_create(thread: usize, attributes: usize, start: usize, argument: usize) -> i32;
     fn __real_proved_argon2_buffers_new(settings: usize, most: u32, buffers: &mut usize) -> u32;
     fn fork() -> i32;
-    fn _Fork() -> i32;
     fn waitpid(child: i32, status: &mut i32, options: i32) -> i32;
     fn _exit(status: i32) -> !;
 }
@@ -51,11 +47,6 @@ unsafe extern "C" fn __wrap_pthread_create(thread: usize, attributes: usize, sta
     error
 }
 
-#[no_mangle]
-extern "C" fn getpid() -> i32 {
-    ID.load(SeqCst)
-}
-
 const PWD: &[u8] = b"password";
 const SALT: &[u8] = b"somesalt";
 const MODES: [ThreadMode; 3] = [ThreadMode::Sequential, ThreadMode::Parallel, ThreadMode::AtMost(3)];
@@ -68,7 +59,15 @@ fn settings(mem_cost: u32, lanes: u32, thread_mode: ThreadMode) -> Config<'stati
 /// Counts these bytes in the memory that this process may write to. We count in a forked child,
 /// because no other thread can unmap memory there.
 fn occurrences_of(word: &[u8]) -> usize {
-    (status_of_child(fork, || count(word) as i32) >> 8) as usize
+    let mut status = -1;
+    unsafe {
+        let child = fork();
+        if child == 0 {
+            _exit(count(word) as i32);
+        }
+        assert!(child > 0 && waitpid(child, &mut status, 0) == child);
+    }
+    (status >> 8) as usize
 }
 
 fn count(word: &[u8]) -> usize {
@@ -91,7 +90,7 @@ fn no_copy_of_a_password_is_left() {
     for mode in MODES {
         let config = settings(1024, 4, mode);
         let text = hash_encoded(&pwd, SALT, &config).unwrap();
-        let tag = hash_raw_in(&mut memory, &pwd, SALT, &config).unwrap();
+        let tag = Run::new().over(&mut memory).hash_raw(&pwd, SALT, &config).unwrap();
         assert_eq!(verify_raw(&pwd, SALT, &tag, &config), Ok(true));
         assert_eq!(argon2::verify_password(&text, &pwd), Ok(true));
         assert!(argon2::verify_and_update(&text, &pwd, &Config::owasp5()).unwrap().1.is_some());
@@ -171,54 +170,11 @@ fn a_line_starts_a_denied_thread_later() {
     assert_eq!(THREADS.load(SeqCst), before + 1);
 }
 
-/// Runs work in a forked child, which exits with the number that it returns. Returns how the child ended.
-fn status_of_child(fork: unsafe extern "C" fn() -> i32, work: impl FnOnce() -> i32) -> i32 {
-    let mut status = -1;
-    unsafe {
-        let child = fork();
-        if child == 0 {
-            _exit(work());
-        }
-        assert!(child > 0 && waitpid(child, &mut status, 0) == child);
-    }
-    status
-}
-
-/// In a forked child all places are free, though the parent holds both and another thread waits, and a place that the
-/// child inherits serves it too. Its ID is that of the parent if both are the first processes of their PID namespaces.
-/// `_Fork` calls no handlers, as the system's own call.
-fn a_forked_child_has_all_places(fork: unsafe extern "C" fn() -> i32, id: i32) {
-    let line = Line::new(2, 1);
-    let (held, mut inherited) = (line.wait().unwrap(), line.wait().unwrap());
-    inherited.run().hash_raw(PWD, SALT, &Config::default()).unwrap();
-    let waiting = thread::spawn({
-        let line = line.clone();
-        move || hash_in(&line)
-    });
-    while format!("{line:?}").contains("queue: []") {
-        thread::yield_now(); // until the other thread waits
-    }
-    let status = status_of_child(fork, move || {
-        ID.store(id, SeqCst);
-        inherited.run().hash_raw(PWD, SALT, &Config::default()).unwrap();
-        drop(inherited);
-        let places = [line.wait().unwrap(), line.wait().unwrap()];
-        drop(places);
-        hash_in(&line);
-        0
-    });
-    assert_eq!(status, 0);
-    drop(held);
-    waiting.join().unwrap();
-}
-
 fn main() {
     no_copy_of_a_password_is_left();
     no_copy_of_a_tag_is_left();
     a_hasher_of_the_traits_verifies_with_at_most_16_threads();
     a_line_whose_buffers_are_denied_computes_without_them();
     a_line_starts_a_denied_thread_later();
-    a_forked_child_has_all_places(_Fork, 2);
-    a_forked_child_has_all_places(fork, 1);
     a_line_keeps_a_buffer_for_ten_seconds();
 }
