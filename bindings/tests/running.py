@@ -70,6 +70,13 @@ def run(*words, **named):
     return done.stdout
 
 
+def runs_here(build):
+    """Returns a build as a parameter of a test that is skipped on older processors."""
+    said = run("/lib64/ld-linux-x86-64.so.2", "--help") if MACHINE == "x86_64" else ""
+    return pytest.param(build, marks=pytest.mark.skipif(
+        f"{build} (supported, searched)" not in said, reason=f"this processor is older than {build}"))
+
+
 def refuses(status, text, *words, **named):
     """A command has to end with this status and this text on standard error, which is returned."""
     done = start(*words, **named)
@@ -87,20 +94,6 @@ def fetch(call, *words, release="sid"):
 def built(part=MACHINE):
     """Returns the folder with a linked part, as proved and built here or in release/."""
     return pathlib.Path(run("build/prepare", part, timeout=4800).strip())
-
-
-def linked_without_kernels(folder):
-    """Links the library as SECURITY.md says, without compression that is not proved, and returns the folder with it."""
-    page = (TOP / "SECURITY.md").read_text()
-    command, = re.findall(rf"^    (BUILDS=.* build/link {MACHINE}) release out ", page, re.M)
-    run("sh", "-c", f'{command} "$0" "$1"', built(), folder)
-    return folder / MACHINE
-
-
-def is_without_kernels(program):
-    """Returns whether a program contains each build of the library whose compression is proved, and no other one."""
-    names = run("nm", program)
-    return [build for build in BUILDS if f" proved_{build.replace('-', '_')}_" in names] == PROVED
 
 
 def ahead(request, name, work, at_once=None):

@@ -4,11 +4,11 @@ import re
 import shutil
 
 import pytest
-from running import BUILDS, CC, MACHINE, PROVED, TOP, VERSION, flags_of, is_without_kernels, linked_without_kernels
-from running import needs, refuses, run, start
+from running import BUILDS, CC, MACHINE, PROVED, TOP, VERSION, first_lines, flags_of, needs, refuses, run, runs_here
+from running import serves, start
 
 LIBRARY = "libproved_argon2.so"
-EXAMPLE = TOP / "bindings/c/tests/example.c"
+EXAMPLE = TOP / "bindings/c/tests/quick_start.c"
 HEADERS = sorted((TOP / "bindings/c/include").glob("*.h"))
 # The functions of the headers: each begins on a new line.
 CALLS = sorted(re.findall(
@@ -48,6 +48,17 @@ def examples(installed, tmp_path_factory):
 
 def test_install_writes_exactly_the_listed_files(installed):
     assert len(CALLS) > 40 and files_in(installed) == EXPECTED
+
+
+def test_the_example_has_the_first_lines_of_the_page():
+    assert first_lines("C.md", 15) in EXAMPLE.read_text()
+
+
+def test_the_service(installed, tmp_path):
+    """More clients log in at once than there are places."""
+    run(CC, "-std=gnu11", "-Wall", "-Wextra", "-Werror", "-O1", "-I", "docs/examples", "bindings/c/tests/service.c",
+        "-o", tmp_path / "service", *flags_of(installed), "-pthread")
+    serves(tmp_path / "service", env={"LD_LIBRARY_PATH": installed / "lib"})
 
 
 @pytest.mark.parametrize("compiler", ["gcc -std=c99 -x c", "g++ -std=c++98 -x c++"])
@@ -95,17 +106,11 @@ def test_cmake_rejects_a_later_version_and_another_first_number(installed, tmp_p
     assert done.returncode != 0 and "compatible with requested version" in done.stderr, done
 
 
-def runs_here(build):
-    said = run("/lib64/ld-linux-x86-64.so.2", "--help") if MACHINE == "x86_64" else ""
-    return pytest.param(build, marks=pytest.mark.skipif(
-        f"{build} (supported, searched)" not in said, reason=f"this processor is older than {build}"))
-
-
 @pytest.mark.parametrize("build", map(runs_here, BUILDS))
 def test_each_build_computes_the_example_and_the_outside_vectors(installed, examples, build):
     named = {"PROVED_ARGON2_CPU": build, "LD_LIBRARY_PATH": installed / "lib"}
-    said = run(examples / "shared", env=named)
-    assert "\npassed: the tag " in f"\n{said}" and said == run(examples / "static")
+    for program in "shared", "static":
+        run(examples / program, env=named)
     named.update(PYTHONPATH=TOP / "bindings/python/src", PROVED_ARGON2_LIBRARY=f"{LIBRARY}.1")
     run("/usr/bin/python3", "-B", "-m", "pytest", "-q", "bindings/python/tests/test_vectors.py", env=named)
 
@@ -127,11 +132,17 @@ def test_registers_of_256_and_512_bits_are_only_in_the_builds_for_their_processo
 
 
 def test_the_library_without_kernels_has_no_code_for_avx_512(built, installed, tmp_path):
-    folder, program = linked_without_kernels(tmp_path), tmp_path / "example"
+    """It is linked as SECURITY.md says, and contains each build whose compression is proved, and no other one."""
+    page, program = (TOP / "SECURITY.md").read_text(), tmp_path / "example"
+    command, = re.findall(rf"^    (BUILDS=.* build/link {MACHINE}) release out ", page, re.M)
+    run("sh", "-c", f'{command} "$0" "$1"', built, tmp_path)
+    folder = tmp_path / MACHINE
     for library in folder / "libproved_argon2.a", folder / f"{LIBRARY}.1":
         assert {*re.findall(r"%([yz]mm)\d", run("objdump", "-d", library))} == {"ymm"}
     run(CC, "-I", TOP / "bindings/c/include", EXAMPLE, folder / "libproved_argon2.a", "-pthread", "-o", program)
-    assert is_without_kernels(program) and "\npassed: the tag " in f"\n{run(program)}"
+    names = run("nm", program)
+    assert [build for build in BUILDS if f" proved_{build.replace('-', '_')}_" in names] == PROVED
+    run(program)
     refuses(1, "", program, env={"PROVED_ARGON2_CPU": "x86-64-v4"})
 
 
@@ -164,6 +175,13 @@ def test_the_manual_is_sound_and_opens_by_the_name_of_each_call(installed, page)
     done = start("groff", "-s", "-man", "-Tascii", "-P-cbou", "-ww", page, cwd=installed / "share/man")
     assert done.stderr == "" and VERSION in done.stdout, done.stderr
     assert page[5:-2] not in CALLS or f"{page[5:-2]}(" in done.stdout
+
+
+@pytest.mark.parametrize("part", ["SYNOPSIS", "DESCRIPTION"])
+def test_the_manual_has_each_call(installed, part):
+    page = (installed / "share/man/man3/proved_argon2.3").read_text()
+    text = re.search(rf"^\.SH {part}\n(.*?)(?=^\.SH )", page, re.M | re.S)[1]
+    assert sorted({*re.findall(r'\b(proved_argon2_[a-z0-9_]+)[ "]*\(', text)}) == CALLS
 
 
 def of_arm(archive):

@@ -4,7 +4,7 @@ programs of Rust, statically. The tests in C are bindings/c's, for the target mu
 import re
 import shutil
 
-from running import TOP, VERSION, built, needs, project, refuses, run, start, with_crate
+from running import TOP, VERSION, built, needs, refuses, run, start
 
 BINDINGS, MADE = TOP / 'bindings', built() / 'x86_64'
 ARCHIVE, SHARED = MADE / 'libproved_argon2.a', MADE / f'libproved_argon2.so.{VERSION}'
@@ -73,8 +73,10 @@ def test_loads_the_shared_object_of_the_wheel(tmp_path):
 def test_loads_the_addon(tmp_path):
     """A stand-in has those parts of Node that hashing needs."""
     folder = BINDINGS / 'javascript'
-    program = loaded_by_musl(tmp_path / 'addon', '-I', folder / 'addon', '-rdynamic', folder / 'tests/addon.c')
-    assert run(program, MADE / 'proved_argon2.node').startswith(f'0 0 8 {TAG}')
+    program = loaded_by_musl(tmp_path / 'addon', '-I', folder / 'addon', '-rdynamic', '-Wl,--wrap=pthread_create',
+                             folder / 'tests/addon.c')
+    said = run(program, MADE / 'proved_argon2.node')
+    assert said.count('passed: ') == 3 and TAG in said
 
 
 # ---- in Rust
@@ -90,35 +92,21 @@ def test_static_program_of_core(tmp_path):
         assert start(program, env={'PROVED_ARGON2_CPU': build}).returncode == status
 
 
-def with_std(cargo, folder, work, flags, *words):
-    """Runs cargo with musl instead of the C library of Rust's std, since Debian has no target with musl's std."""
-    (work / 'of_std.c').write_text(OF_GLIBC, encoding='utf-8')
-    run(*CC, '-c', work / 'of_std.c', '-o', work / 'of_std.o')
-    static = ('linker=musl-gcc', 'target-feature=+crt-static', 'relocation-model=static',
-              f'link-arg={work}/of_std.o', 'link-arg=-Wl,-u,pthread_once', *flags)
-    how = dict(PROVED_ARGON2_LIB_DIR=MADE, CARGO_BUILD_TARGET='x86_64-unknown-linux-gnu',
-               CARGO_TARGET_DIR=work / 'target', RUSTFLAGS=' '.join(f'-C {flag}' for flag in static))
-    done = start('cargo', *words, '--offline', cwd=folder, env={**cargo, **how})
-    assert done.returncode == 0, done.stderr
-    return done.stdout + done.stderr
-
-
 @needs('cargo')
 def test_crate_passes_its_tests(cargo, tmp_path):
-    """They include the outside vectors by threads."""
-    shown = with_std(cargo, BINDINGS / 'rust', tmp_path, [], 'test', '--tests', '--no-fail-fast')
-    assert len(re.findall(r'^test .* \.\.\. ok$', shown, re.M)) >= 26
+    """They include the outside vectors by threads. Debian has no target with musl's std, so cargo links musl in place
+    of the C library of Rust's std."""
+    (tmp_path / 'of_std.c').write_text(OF_GLIBC, encoding='utf-8')
+    run(*CC, '-c', tmp_path / 'of_std.c', '-o', tmp_path / 'of_std.o')
+    flags = ('linker=musl-gcc', 'target-feature=+crt-static', 'relocation-model=static',
+             f'link-arg={tmp_path}/of_std.o', 'link-arg=-Wl,-u,pthread_once')
+    how = dict(PROVED_ARGON2_LIB_DIR=MADE, CARGO_BUILD_TARGET='x86_64-unknown-linux-gnu',
+               CARGO_TARGET_DIR=tmp_path / 'target', RUSTFLAGS=' '.join(f'-C {flag}' for flag in flags))
+    done = start('cargo', 'test', '--tests', '--no-fail-fast', '--offline', cwd=BINDINGS / 'rust', env={**cargo, **how})
+    shown = done.stdout + done.stderr
+    assert done.returncode == 0 and len(re.findall(r'^test .* \.\.\. ok$', shown, re.M)) >= 30, shown
     program = re.search(r'Running tests.vectors\.rs \((.*)\)$', shown, re.M)[1]
     assert 'INTERP' not in run('readelf', '-lW', program) and ' __libc_malloc_impl' in run('nm', program)
-
-
-@needs('cargo')
-def test_crate_clears_what_it_keeps(cargo, tmp_path):
-    """It does so between calls, by one thread and by several. The program succeeds if all its checks do."""
-    program = (BINDINGS / 'rust/tests/programs/memory.rs').read_text(encoding='utf-8')
-    folder = project(tmp_path / 'keeping', program, with_crate('password-hash'))
-    with_std(cargo, folder, tmp_path,
-             ['link-arg=-Wl,--wrap=proved_argon2_buffers_new,--wrap=pthread_create'], 'run', '--quiet')
 
 
 @needs('cargo')

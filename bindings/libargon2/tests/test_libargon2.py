@@ -1,6 +1,6 @@
-"""Our replacement (bindings/libargon2) beside Debian's libargon2: its names, the vectors of libargon2's tests, random
-calls (their seed is SEED, or random), Debian's programs with both, processes that are denied threads, memory or a
-callback's memory, and what calls leave in memory. Faults planted into it have to be found.
+"""Our replacement (bindings/libargon2) beside Debian's libargon2: its names, random calls (their seed is SEED, or
+random), libargon2's own tests, Debian's programs with both, processes that are denied memory or a callback's memory,
+and what calls leave in memory. Faults planted into it have to be found.
 """
 import os
 import re
@@ -8,15 +8,14 @@ import secrets
 import shutil
 
 import pytest
-from running import TOP, built, exports, fetch, run, start
+from running import BUILDS, TOP, built, exports, fetch, run, runs_here, start
 
 HERE, FACE, BUILT = TOP / "bindings/libargon2", TOP / "bindings/c", built("x86_64") / "x86_64"
 TESTS, THEIRS, ARCHIVE = HERE / "tests", "/usr/lib/x86_64-linux-gnu/libargon2.so.1", BUILT / "libproved_argon2.a"
-SEED, CALLS, SANITIZED = int(os.environ.get("SEED", secrets.randbits(32))), 25000, 5000
+SEED, CALLS, SANITIZED = int(os.environ.get("SEED", secrets.randbits(32))), 40000, 5000
 CC = *"gcc -std=gnu11 -O1 -Wall -Wextra -Werror -I".split(), HERE, "-I", FACE / "include", "-I", TOP / "bindings/c/src"
 FUZZ, SANITIZE = ("/usr/bin/python3", "-B", TESTS / "fuzz.py"), "-g -fsanitize=address,undefined -fno-sanitize-recover"
 HEADERS = "gcc -std=c99 -x c", "g++ -std=c++98 -x c++", "clang -std=c17 -x c -Weverything"
-KINDS = "threads", "memory"
 # A program that links both archives, the replacement's and the library's, and prints what an older processor gets: a
 # code that libargon2 does not have.
 BOTH = """#include <argon2.h>
@@ -29,6 +28,22 @@ int main(void)
     int read = argon2id_verify("$argon2id$v=19$m=64,t=1,p=1$c29tZXNhbHQ$AAAAAAAA", "pw", 2);
     FLAG_clear_internal_memory = proved_argon2_library_version() != 0;
     return printf("%d %d %s", made, read, argon2_error_message(made)) < 0;
+}
+"""
+# The code of docs/USE.md for PHP: a bcrypt hash, and an Argon2 hash with other settings, are renewed only at a login
+# with the right password.
+PHP = """<?php
+function log_in($stored, $password) {
+%s
+    return $matches ? $stored : false;
+}
+$olds = [password_hash('password', PASSWORD_BCRYPT, ['cost' => 4]),
+    password_hash('password', PASSWORD_ARGON2ID, ['memory_cost' => 64])];
+foreach ($olds as $old) {
+    $new = log_in($old, 'password');
+    $moves = $new !== $old && strpos($new, '$argon2id$') === 0 && log_in($new, 'password') === $new;
+    $moves = $moves && log_in($old, 'Password') === false && log_in($new, 'Password') === false;
+    echo $moves ? "moves\\n" : "$old $new\\n";
 }
 """
 FAULTS = {name: [text.replace("\\n", "\n") for text in pair] for name, *pair in re.findall(
@@ -45,7 +60,7 @@ def work(tmp_path_factory):
     link = "-L", folder / "lib", "-largon2"
     wrapped = re.findall(r"__wrap_(\w+)\(.*;", (FACE / "tests/system.h").read_text(encoding="utf-8"))
     for name, *words in (
-        ("starved", TESTS / "starved.c", *link, "-ldl"),
+        ("starved", TESTS / "starved.c", *link),
         ("secrets", "-I", FACE / "tests", TESTS / "secrets.c", ARCHIVE, *link, "-pthread", "-Wl,-z,lazy",
          *(f"-Wl,--wrap={name}" for name in wrapped)),
     ):
@@ -96,22 +111,16 @@ def test_links_both_archives_and_names_an_older_processor(tmp_path):
 
 # ---- what it returns
 
-# These look for H0 and a tag after calls, count the threads for an encoded hash, and deny processes something.
-@pytest.mark.parametrize("words", [
-    ("secrets",), ("starved", "texts", 0), *(("starved", kind, at) for kind in KINDS for at in range(20))],
-    ids=lambda words: " ".join(map(str, words)))
+# These look for H0 and a tag after calls, and deny processes memory.
+@pytest.mark.parametrize("words", [("secrets",), *(("starved", at) for at in range(20))],
+                         ids=lambda words: " ".join(map(str, words)))
 def test_program(work, words):
     run(*over(work / "lib", work / words[0], *words[1:]))
 
 
-@pytest.mark.parametrize("seed", range(SEED, SEED + 4))
-def test_drawn_calls_return_the_same_as_debian_s(seed):
-    run(*FUZZ, seed, CALLS, THEIRS, BUILT / "libargon2.so.1")
-
-
-@pytest.mark.parametrize("folder", ["", BUILT], ids=["Debian's", "ours"])
-def test_vectors(folder):
-    run(*over(folder, "/usr/bin/python3", "-B", TESTS / "vectors.py"))
+@pytest.mark.parametrize("build", map(runs_here, BUILDS))
+def test_drawn_calls_return_the_same_as_debian_s(build):
+    run(*FUZZ, SEED, CALLS, THEIRS, BUILT / "libargon2.so.1", env={"PROVED_ARGON2_CPU": build})
 
 
 def fetched(kind, package, folder):
@@ -147,12 +156,17 @@ def test_drawn_calls_with_sanitizers(work):
     """We do not look for leaks, since Python itself leaves memory at its end."""
     interface(HERE / "libargon2.c", work / "sanitized.so", *SANITIZE.split())
     run("env", f'LD_PRELOAD={run("gcc", "-print-file-name=libasan.so").strip()}', "PYTHONMALLOC=malloc",
-        "ASAN_OPTIONS=leak_check_at_exit=0", *FUZZ, SEED + 4, SANITIZED, THEIRS, work / "sanitized.so")
+        "ASAN_OPTIONS=leak_check_at_exit=0", *FUZZ, SEED + 1, SANITIZED, THEIRS, work / "sanitized.so")
 
 
 def test_programs_of_debian(work):
     shown = run("env", f"LIBARGON2={work}/lib", "/usr/bin/python3", "-B", "-m", "pytest", "-q", TESTS / "programs.py")
     assert " passed" in shown and "skipped" not in shown, shown
+
+
+def test_the_lines_for_php_move_a_hash_to_argon2(work):
+    (lines,) = re.findall(r"^```php\n(.*?)^```", (TOP / "docs/USE.md").read_text(), re.M | re.S)
+    assert run(*over(work / "lib", "php"), input=PHP % lines) == "moves\nmoves\n"
 
 
 # ---- planted faults
@@ -161,7 +175,7 @@ def is_right(work, folder):
     """Returns whether a library answers correctly, judged by some thousand calls and by processes that are denied
     something."""
     commands = [(*FUZZ, 1, 5000, THEIRS, folder / "libargon2.so.1"),
-                *(over(folder, work / "starved", kind, 3) for kind in KINDS), over(folder, work / "secrets")]
+                over(folder, work / "starved", 3), over(folder, work / "secrets")]
     return all(start(*command, errors="replace").returncode == 0 for command in commands) \
         and entries(folder / "libargon2.so.1", "SONAME") == ["libargon2.so.1"]
 

@@ -7,7 +7,6 @@ import select
 import shutil
 import signal
 import subprocess
-import sys
 import termios
 import time
 
@@ -16,8 +15,6 @@ from commands import (  # noqa: F401
     ABOVE,
     COMMAND,
     COSTLY,
-    LIBRARY,
-    PROGRAM,
     ROOT,
     SMALL,
     STORED,
@@ -131,11 +128,6 @@ def test_an_older_glibc_is_named_with_status_70(for_newer_glibc, tmp_path):
 def test_the_help_and_its_example():
     status, output, errors = expected = piped(["--help"])
     assert (status, errors) == (0, b"") and max(map(len, output.splitlines())) <= 95
-    for words in ("argon2id 19 2 19456 1 32 seq", "VARIANT VERSION T M P LEN MODE",
-                  "SALT      8 bytes of UTF-8 text or more", "65536 bytes", "the memory in KiB, at least 8 times P",
-                  "LEN       the length of the tag in bytes, 4 or more", "16 random bytes",
-                  "printf", "echo", "single quotes", "Exit status"):
-        assert words in output.decode(), words
     script = '{} "$@" {}'.format(*re.search(r"^ *(printf password \|) \S+ (hash .*)$", output.decode(), re.M).groups())
     done = subprocess.run(["sh", "-c", script, "sh", *COMMAND], capture_output=True, timeout=600)
     assert done.returncode == 0 and verifies(done.stdout.decode().splitlines()[1], b"password")
@@ -162,7 +154,6 @@ def salt_of(output):
 
 
 def test_new_prints_a_hash_with_owasp_s_settings_and_a_random_salt():
-    """Python finds nothing to renew in it."""
     texts = [piped(["new"], b"password") for _ in range(2)]
     for status, output, errors in texts:
         assert (status, errors, len(salt_of(output))) == (0, b"", 16)
@@ -171,15 +162,6 @@ def test_new_prints_a_hash_with_owasp_s_settings_and_a_random_salt():
     salts = [salt_of(output) for _, output, _ in texts]
     # 32 random bytes are all below 128 only once in 2^32 times
     assert salts[0] != salts[1] and max(b"".join(salts)) > 127
-    script = """if True:
-        import sys
-        from proved_argon2 import PasswordHasher, profiles
-        hasher = PasswordHasher.from_parameters(profiles.OWASP)
-        text = sys.stdin.read().strip()
-        print(hasher.verify(text, "password"), hasher.check_needs_rehash(text))"""
-    environment = {**os.environ, "PYTHONPATH": str(ROOT / "bindings/python/src"), "PROVED_ARGON2_LIBRARY": str(LIBRARY)}
-    words = [sys.executable, "-B", "-c", script]
-    assert subprocess.run(words, input=texts[0][1], env=environment, capture_output=True).stdout == b"True False\n"
 
 
 @pytest.mark.parametrize("password, ends_with_newline", [
