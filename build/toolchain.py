@@ -16,7 +16,9 @@ def load_rt():
     """Returns the command `rt` as a module; its library is `load_rt().rtlib`."""
     os.environ["PATH"] = os.environ.get("PATH", "") + ":/opt/rattle/bin"
     found = shutil.which("rt")
-    assert found, "there is no rt, which proves and builds"
+    if not found:
+        why = subprocess.getoutput(f'"{HERE}/check_release"') or "this proves anew"
+        sys.exit(f"there is no rt, and {why}: to prove and build takes a kit of build/kits.txt in /opt/rattle")
     path = os.path.realpath(found)
     sys.path.append(os.path.dirname(path))
     loader = SourceFileLoader("rt", path)

@@ -35,10 +35,10 @@ FAULTS = str(build_preloaded(TOP / '.ci/faults/faults.c', FOLDER.name))
 
 
 @functools.cache
-def copy_of(name, suffix=''):
+def copy_of(name):
     """Returns a copy of a crate's binary that the proofs left. It has to be built from these sources."""
     crate = name.removesuffix('_tests')
-    binary = TOP / f'crates/{crate}/out/{name}{suffix}'
+    binary = TOP / f'crates/{crate}/out/{name}'
     assert is_current(crate, binary, says_why=True), f'{binary.name} was built from other sources'
     return Path(shutil.copy(binary, FOLDER.name))
 

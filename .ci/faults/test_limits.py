@@ -1,14 +1,18 @@
 """Runs the program under limits of the system: just as many threads as it needs, no thread at all, little address
-space, and a matrix that no system has. Only root can: the program runs as a separate user, whose threads
-Linux counts."""
+space, a matrix that no system has, one processor, and stops. Only root can limit threads: the program runs as a
+separate user, whose threads Linux counts."""
 
+import contextlib
 import os
+import random
 import resource
+import signal
+import time
 from collections import Counter
 from itertools import groupby
 
 import pytest
-from runs import NO_MEMORY, NO_WORKER, SLICES, TRIES, VALUE, Hash, copy_of, run
+from runs import NO_MEMORY, NO_WORKER, PROCESSORS, SECONDS, SLICES, TRIES, VALUE, Hash, copy_of, run
 
 HASHES, FEW, LEAST = 200, 20, 198  # hashes; hashes with one thread fewer; how many of the 200 must succeed
 PASSES, LATE = 3, 1000  # microseconds
@@ -16,6 +20,7 @@ MATRIX, BESIDE_THE_MATRIX, BESIDE_A_SLICE = 65536, 16384, 4096  # KiB
 MOST_RESIDENT, MANY = 2048, 16  # KiB, mostly the program's own; workers
 # A user ID unused by Debian and systemd: Linux counts all threads of a user.
 USER = 60706 + os.getpid() % 478
+MOMENT, STOPS = 0.003, 4  # seconds
 LITTLE = {'space': (MATRIX + BESIDE_THE_MATRIX) * 1024}
 
 
@@ -76,3 +81,31 @@ def test_a_hash_without_workers_is_refused_with_few_pages_touched(how, denied, m
 def test_an_encoded_hash_of_4_tib_is_refused_before_memory_is_touched(lanes):
     found = met(['verify', f'$argon2id$v=19$m=4294967295,t=1,p={lanes}$c29tZXNhbHQ$c29tZWhhc2g'], '')
     assert found[NO_MEMORY] == 1 and 0 < found['peak'] <= MOST_RESIDENT
+
+
+def stop(process):
+    """Stops a process up to four times, each time a moment after it is seen with workers. Returns the most threads it
+    then had."""
+    tasks, limit, threads = f'/proc/{process.pid}/task', time.monotonic() + SECONDS, [0]
+    with contextlib.suppress(OSError):  # it may end meanwhile
+        while len(threads) <= STOPS and process.poll() is None and time.monotonic() < limit:
+            if len(os.listdir(tasks)) > 1:
+                time.sleep(random.random() * MOMENT)
+                process.send_signal(signal.SIGSTOP)
+                os.waitid(os.P_PID, process.pid, os.WSTOPPED | os.WEXITED | os.WNOWAIT)
+                threads.append(len(os.listdir(tasks)))  # (one, if the process has ended)
+                process.send_signal(signal.SIGCONT)
+            time.sleep(MOMENT / 30)
+    return max(threads)
+
+
+@pytest.mark.parametrize('how, has_met', [
+    ({'how': {'preexec_fn': lambda: os.sched_setaffinity(0, PROCESSORS[:1])}, 'DELAY': LATE},
+     lambda came, starts: came.met['late'] == starts),
+    ({'meanwhile': stop}, lambda came, _: came.seen > 1)], ids=('late on one processor', 'stopped'))
+def test_late_or_stopped_workers_compute_the_hash(how, has_met):
+    """The workers of a stopped process may just have ended: half of the processes have to be stopped with workers."""
+    settings = Hash('argon2id', 19, PASSES, MATRIX // 4, 8, 32)
+    came = [run([copy_of('argon2_program'), *settings.words()], **how) for _ in range(FEW)]
+    assert [one.end(0, settings.output()) for one in came] == [VALUE] * FEW
+    assert sum(has_met(one, settings.starts()) for one in came) >= FEW // 2

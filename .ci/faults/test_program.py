@@ -1,23 +1,22 @@
 """Runs the program and the shell's tool over real pipes: each exit status, what is written for it, words that no shell
 would pass, words of many lengths, and inputs that are longer than any password. The proofs do not cover the bytes of
 standard streams or the arguments of processes; rows of argon2_vectors say which words a command takes. Rattle's calls
-return libargon2's hashes of all lengths, and no resource error, since nothing is denied. Hashes are drawn from SEED of
-the environment or from a printed seed.
+return libargon2's hashes, and no resource error, since nothing is denied. Hashes are drawn from SEED of the environment
+or from a printed seed.
 
 If the environment has OVER, the path of another tool with the same words, only that is tested.
 """
 
 import os
-import random
 import re
 import sys
 
 import pytest
 import vectors
-from runs import SEED, VARIANTS, Hash, copy_of, run
+from runs import SEED, Hash, copy_of, run
 from shared import TOP, output_of
 
-OTHER, DRAWS, DRAW = os.environ.get('OVER'), 1000, random.Random(SEED)
+OTHER, DRAWS = os.environ.get('OVER'), 1000
 of_calls = pytest.mark.skipif(bool(OTHER), reason="OVER has no calls of Rattle's")
 BINARIES = ['argon2_tool'] if OTHER else ['argon2_program', 'argon2_tool']
 # The longest password that any call accepts, and that the tool takes; and the address space that is left beside it.
@@ -35,18 +34,6 @@ TWO, ONE = Hash('argon2d', 19, 2, 256, 2, 32, salt=b'somesalt'), Hash('argon2i',
 NO_WORD = Hash('argon2id', 19, 1, 8, 1, 16, 0, bytes(range(240, 256)))
 HASH, STORED, NEW = TWO.words(), ONE.text(), ['new', *TWO.settings(), '736f6D6573616c74']
 VERIFY, CHECK, REHASH = ['verify', STORED], ['check', STORED], ['rehash', *ONE.settings()[:-1], STORED]
-LEAST = Hash('argon2id', 19, 1, 8, 1, 32)
-# Thread modes and hashes: each number of passes with each number of lanes; more lanes than other tests have, with few
-# workers; each tag length above those of other tests; and salts that repeat one byte, for each byte.
-SIZES = {
-    'passes and lanes': [('all', LEAST._replace(variant=DRAW.choice(VARIANTS), passes=passes, memory=8 * lanes,
-                                                lanes=lanes))
-                         for passes in range(1, 14) for lanes in range(1, 20)],
-    'many lanes': [(f'max{DRAW.choice((2, 3, DRAW.randint(4, 64)))}', LEAST._replace(memory=8 * lanes, lanes=lanes))
-                   for lanes in DRAW.sample(range(402, 1000), 9)],
-    'long tags': [('all', LEAST._replace(length=length)) for length in (*range(1001, 2100), 4097, 8193, 65537)],
-    'salts of a byte': [('all', LEAST._replace(salt=bytes([byte]) * 9)) for byte in range(256)],
-}
 COSTLY = [['check', '$argon2id$v=19$m=8,t=1000,p=1$$c29tZWhhc2g'], ['new', *'argon2id 19 1000 8 1 32 seq'.split(), '']]
 
 
@@ -112,14 +99,6 @@ def test_words_of_each_length_are_used_completely(name, size):
             assert come_to(name, words, input_bytes=one.password) == expected
 
 
-def answers_differ(rows):
-    """Returns the rows that argon2_vectors answers differently, each with its answer."""
-    answered = run([copy_of('argon2_vectors')], False, input_bytes=''.join(f'{row[0]}\n' for row in rows).encode())
-    answers = answered.output.splitlines()
-    assert len(answers) == len(rows), answered.errors
-    return [(row, answer) for row, answer in zip(rows, answers) if answer != row[1]]
-
-
 @of_calls
 def test_drawn_hashes_by_the_calls(tmp_path):
     """Rattle's calls, in each thread mode: hashes in the form of bindings/vectors/raw.txt, and as encoded hashes."""
@@ -130,16 +109,5 @@ def test_drawn_hashes_by_the_calls(tmp_path):
         variant, version, passes, memory, lanes, _, password, salt, secret, data, tag = line.split(' ')
         text = vectors.spelled(variant, version, memory, passes, lanes, salt, tag)
         rows.append((f'verify_encoded_ext {password} {secret} {data} {text}', 'true'))
-    assert len(rows) == 2 * DRAWS and not answers_differ(rows), f'seed {SEED}'
-
-
-@of_calls
-@pytest.mark.parametrize('kind', SIZES)
-def test_hashes_of_each_size_by_the_calls(kind):
-    """Rattle's calls, with settings seldom drawn together, in each thread mode or by few workers."""
-    rows = []
-    for mode, one in SIZES[kind]:
-        tag, text = one.output().split()
-        rows += [(f"hash_raw {' '.join(map(str, one[:6]))} {mode} '{one.password.decode()} {one.salt.hex()} - -", tag),
-                 (f"verify_encoded_ext '{one.password.decode()} - - {text}", 'true')]
-    assert rows and not answers_differ(rows), f'seed {SEED}'
+    answered = run([copy_of('argon2_vectors')], False, input_bytes=''.join(f'{row[0]}\n' for row in rows).encode())
+    assert len(rows) == 2 * DRAWS and answered.output.splitlines() == [row[1] for row in rows], f'seed {SEED}'

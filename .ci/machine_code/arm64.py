@@ -129,6 +129,14 @@ def moved(mnemonic, words):
     return step
 
 
+def prefetch(text):
+    """Takes note of an address."""
+    found = PLACE.fullmatch(text)
+    if not found or found[3]:
+        raise Fault(f'the operand {text} of a prefetch is not known')
+    return lambda machine: machine.prefetched.append(add(machine.registers[found[1]], int(found[2] or 0)))
+
+
 def call(to):
     def step(machine):
         machine.registers['x30'] = machine.after
@@ -184,6 +192,8 @@ def decode(text):
     words = parts(rest)
     if mnemonic == 'nop':
         return lambda machine: None
+    if mnemonic == 'prfm' and len(words) == 2:
+        return prefetch(words[1])
     if re.fullmatch('(ld|st)(p|u?r)', mnemonic) and words:
         return moved(mnemonic, words)
     divided = [word.partition('.')[2] for word in words if word.startswith('v')]

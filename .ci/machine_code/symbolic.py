@@ -18,8 +18,8 @@ RED_ZONE, MOST_JOINED, LARGEST_FRAME = 128, 16, 1 << 20  # (in bytes)
 STEPS = 20_000  # more instructions than any path has
 STACK, RETURN, RETURN_ADDRESS, ALWAYS = 'stack', z3.BitVec('return', BITS), -1, z3.BoolVal(True)
 POINTED = {**SIZES, 'int': 4}
-# A call that writes a known number of bytes, at most LARGEST, writes each of them. What a call is passed is noted if it
-# has at most MOST_SEEN bytes.
+# If a call writes a known number of bytes, and at most LARGEST, each of these bytes is written here too. Arguments of
+# at most MOST_SEEN bytes are noted.
 LARGEST, MOST_SEEN = 1 << 14, 128
 # A jump, and whether it always jumps.
 JUMP = re.compile(r'(?:(jmp|b)|j\w+|b\.\w+|[ct]bn?z)\s.*?(0x[0-9a-f]+)')
@@ -177,8 +177,9 @@ class Run:
 
 class Processor:
     """A processor that runs a file's functions. A class for a machine says in which registers integers are passed and
-    returned, which registers a function preserves, which others there are, and which of those are vectors."""
-    arguments, result, stack_pointer, saved, others, vectors = (), '', '', (), (), ()
+    returned, which has the place of a structure that a function returns (`hidden`), which registers a function
+    preserves, which others there are, and which of those are vectors."""
+    arguments, result, hidden, stack_pointer, saved, others, vectors = (), '', '', '', (), (), ()
 
     def __init__(self, code, outside, effects=None):
         self.code, self.outside, self.effects, self.solver = code, outside, effects or {}, z3.Solver()
@@ -437,6 +438,12 @@ class Processor:
             return RETURN_ADDRESS
         raise Fault('it jumps to what it computed')
 
+    def passed(self, path, count):
+        """The arguments of a call, whose return address is not on the stack any more."""
+        found = [path.registers[name] for name in self.arguments[:count]]
+        return found + [self.load(path, path.registers[self.stack_pointer] + WORD * index, WORD)
+                        for index in range(count - len(found))]
+
     def call(self, path, name):
         """Calls an outside function."""
         kind, parameters = self.outside[name]
@@ -450,7 +457,7 @@ class Processor:
         for parameter, size in sizes.items():
             if parameter.is_written and size is not None:
                 self.overwrite(path, call, parameter.name, size)
-        hidden = call.arguments['hidden'] = self.hidden(path) if kind in SIZES else None
+        hidden = call.arguments['hidden'] = path.registers[self.hidden] if kind in SIZES else None
         for register in self.others:
             path.registers[register] = self.fresh(register, self.width(register))
         path.registers[self.result] = call.result
@@ -461,3 +468,8 @@ class Processor:
         path.flags = None
         if name in self.effects:
             self.effects[name](self, path, call)
+
+
+def returned(machine, path):
+    path.returns = path.returns[:-1]
+    return ALWAYS, machine.return_address(path)

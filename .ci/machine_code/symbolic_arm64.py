@@ -8,7 +8,7 @@ import z3
 from headers import BITS, HALF, WORD
 from machine import parts
 from symbolic import (ALWAYS, RETURN, Processor, bits, compared, condition_of, holds, is_zero, number, product, resized,
-                      shifted, unknown)
+                      returned, shifted, unknown)
 from terms import Fault
 
 WIDTHS = {'x': 64, 'w': 32, 'q': 128, 'd': 64, 's': 32, 'b': 8}
@@ -20,7 +20,7 @@ CONDITIONS = {'eq': 'e', 'ne': 'ne', 'cc': 'b', 'cs': 'ae', 'hi': 'a', 'ls': 'be
 
 
 class Arm64(Processor):
-    arguments, result, stack_pointer = tuple(f'x{n}' for n in range(8)), 'x0', 'sp'
+    arguments, result, hidden, stack_pointer = tuple(f'x{n}' for n in range(8)), 'x0', 'x8', 'sp'
     saved = tuple(f'x{n}' for n in range(19, 30))
     vectors = tuple(f'v{n}' for n in range(32))  # (of v8 to v15, functions preserve halves; the driver uses none)
     others = *(f'x{n}' for n in range(19)), 'x30', *vectors
@@ -31,21 +31,11 @@ class Arm64(Processor):
 
     def enter(self, path, values, *hidden):
         """Begins a function, which may return a structure in memory."""
-        path.registers.update(zip(['x8'], hidden))
+        path.registers.update(zip([self.hidden], hidden))
         path.registers.update(zip(self.arguments, values))
         path.registers['x30'] = RETURN
         for index, value in enumerate(values[len(self.arguments):]):
             self.put(path, path.registers['sp'] + WORD * index, value)
-
-    def passed(self, path, count):
-        """The arguments of a call."""
-        found = [path.registers[name] for name in self.arguments[:count]]
-        return found + [self.load(path, path.registers['sp'] + WORD * index, WORD)
-                        for index in range(count - len(found))]
-
-    def hidden(self, path):
-        """Where a function writes a structure that it returns."""
-        return path.registers['x8']
 
     def return_address(self, path):
         return path.registers['x30']
@@ -143,11 +133,6 @@ def call(read):
     return step
 
 
-def returned(machine, path):
-    path.returns = path.returns[:-1]
-    return ALWAYS, path.registers['x30']
-
-
 def immediate(flags):
     """The conditions if an instruction sets the flags N, Z, C and V."""
     negative, zero, carry, overflow = (bool(flags & bit) for bit in (8, 4, 2, 1))
@@ -237,7 +222,7 @@ def decode(text):
     """An instruction as a step."""
     mnemonic, _, rest = text.partition('\t')
     words = parts(rest)
-    if mnemonic in {'nop', 'bti', 'hint'}:
+    if mnemonic in {'nop', 'bti', 'hint', 'prfm'}:
         return lambda machine, path: None
     if re.fullmatch('(ld|st)(p|u?r[bh]?)|ldar|stlr', mnemonic):
         return moved(mnemonic, words)

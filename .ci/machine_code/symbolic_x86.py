@@ -8,7 +8,7 @@ import z3
 from headers import BITS, WORD
 from machine import parts
 from symbolic import (ALWAYS, RETURN, Processor, bits, compared, condition_of, holds, is_zero, number, product, resized,
-                      shifted, unknown)
+                      returned, shifted, unknown)
 from terms import Fault
 
 OLD = 'ax', 'bx', 'cx', 'dx', 'si', 'di', 'bp', 'sp'
@@ -23,11 +23,11 @@ NAMES = {**{f'r{name}': (f'r{name}', 0, 64) for name in OLD}, **{f'e{name}': (f'
 WIDTHS = {'BYTE': 8, 'WORD': 16, 'DWORD': 32, 'QWORD': 64, 'XMMWORD': 128}
 PLACE = re.compile(r'(?:(\w+) PTR )?\[(?:([a-z]\w*)(?=[+\-\]]))?(?:\+?(\w+)\*(\d))?([+-]0x[0-9a-f]+)?\]')
 # No effect on what is looked at here: registers of floating-point numbers are only cleared.
-IDLE = re.compile(r'(data16 |cs )*nop.*|endbr64|xchg +ax,ax|fldz|fstp +st\(0\)')
+IDLE = re.compile(r'(data16 |cs )*nop.*|endbr64|prefetch.*|xchg +ax,ax|fldz|fstp +st\(0\)')
 
 
 class X86(Processor):
-    arguments, result, stack_pointer = ('rdi', 'rsi', 'rdx', 'rcx', 'r8', 'r9'), 'rax', 'rsp'
+    arguments, result, hidden, stack_pointer = ('rdi', 'rsi', 'rdx', 'rcx', 'r8', 'r9'), 'rax', 'rdi', 'rsp'
     saved = 'rbx', 'rbp', 'r12', 'r13', 'r14', 'r15'
     vectors = tuple(f'xmm{n}' for n in range(16))
     others = 'rax', 'rcx', 'rdx', 'rsi', 'rdi', 'r8', 'r9', 'r10', 'r11', *vectors
@@ -42,16 +42,6 @@ class X86(Processor):
         path.registers.update(zip(self.arguments, values))
         for index, value in enumerate([RETURN, *values[len(self.arguments):]]):
             self.put(path, path.registers['rsp'] + WORD * index, value)
-
-    def passed(self, path, count):
-        """The arguments of a call, whose return address was popped."""
-        found = [path.registers[name] for name in self.arguments[:count]]
-        return found + [self.load(path, path.registers['rsp'] + WORD * index, WORD)
-                        for index in range(count - len(found))]
-
-    def hidden(self, path):
-        """Where a function writes a structure that it returns."""
-        return path.registers['rdi']
 
     def return_address(self, path):
         return self.pop(path)
@@ -190,11 +180,6 @@ def call(read):
         path.returns += path.after,
         return ALWAYS, read(machine, path)
     return step
-
-
-def returned(machine, path):
-    path.returns = path.returns[:-1]
-    return ALWAYS, machine.pop(path)
 
 
 def special(mnemonic, words, operands):

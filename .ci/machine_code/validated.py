@@ -29,7 +29,8 @@ def compressed_state(flag, h, m, counter):
 class Function:
     """A function's name; what it is passed before the flag: regions of memory, by their sizes in words, and words; what
     it leaves in one of the regions; and how many words of its own frame it clears. In a module, which may have no
-    names, certain instructions identify it, or else its export. In each build, this many instructions call it."""
+    names, certain instructions identify it, or else its export. In each build, this many instructions call it, and so
+    many fewer in a program, which fills no two lanes by turns."""
     name: str
     regions: dict
     words: tuple
@@ -38,6 +39,7 @@ class Function:
     cleared: int
     only: tuple
     calls: int
+    for_pairs: int = 0
 
     def run(self, code, begin, flag, entry, values=None, numbers=()):
         """Runs over values, or else a variable for each word; returns the machine, and what is wrong or None. The words
@@ -63,7 +65,7 @@ class Function:
 
 FUNCTIONS = (
     Function('fill_words', {'prev': 128, 'reference': 128, 'next': 128}, (), 'next', compressed_block, 0,
-             ('i64.mul', 'i64.rotl'), 6),
+             ('i64.mul', 'i64.rotl'), 10, 4),
     Function(AHEAD, {'prev': 128, 'reference': 128, 'next': 128}, ('size', 'columns'), 'next', compressed_block, 0,
              (), 3),
     Function('compress_f', {'h': 8, 'm': 16}, ('low', 'high'), 'h', compressed_state, 16,
@@ -97,7 +99,7 @@ def faults_of_function(code, function, begin):
         faults.add(f'it looks {below} times at what is below the stack pointer')
     if missed and not faults:
         faults.add(f'it is not run: {missed}')
-    if code.calls(begin) != function.calls:
+    if code.calls(begin) != function.calls - (0 if builds_for_c(code, [True]) else function.for_pairs):
         faults.add(f'{code.calls(begin)} instructions call it')
     return [f'{function.name} at {begin}: {fault}' for fault in faults], met
 

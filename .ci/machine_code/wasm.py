@@ -72,12 +72,12 @@ class Module:
 
     def behind(self, export):
         """Returns the functions that an exported one leads to, itself first: each passes its last argument on to the
-        next."""
+        next. The third one is what was proved."""
         numbers = re.findall(rf' - func\[(\d+)\].* -> "{export}"', self.exports)
         for number in numbers:
             numbers += [text.removeprefix('call ') for (before, _), (text, _) in pairwise(self.bodies[number].values())
                         if before.startswith('local.get ') and text.startswith('call ')]
-        return numbers
+        return numbers[:3]
 
     def multiplications(self):
         """Returns the instructions with which blocks can be made."""
@@ -193,7 +193,7 @@ class Wasm(Machine):
 OPERATIONS = {
     'i64.add': (2, lambda _, x, y: add(x, y)), 'i64.sub': (2, lambda _, x, y: x - y & MASK),
     'i64.mul': (2, lambda _, x, y: x * y & MASK), 'i64.xor': (2, lambda _, x, y: x ^ y),
-    'i64.or': (2, lambda _, x, y: x | y), 'i64.and': (2, Machine.masked),
+    'i64.and': (2, Machine.masked),
     'i64.shl': (2, lambda _, x, count: left(x, count % BITS)),
     'i64.shr_u': (2, lambda _, x, count: right(x, count % BITS)),
     'i64.rotl': (2, lambda _, x, count: rotated(x, -count % BITS)),
@@ -202,10 +202,11 @@ OPERATIONS = {
     'i64.gt_u': (2, lambda machine, x, y: machine.compared(y, x, 'a')),
     'i32.ne': (2, lambda machine, x, y: machine.compared(y, x, 'ne')),
     **dict.fromkeys(('i64.eqz', 'i32.eqz'), (1, lambda machine, x: machine.compared(0, x, 'e'))),
-    'i32.wrap_i64': (1, Wasm.cut), 'i32.add': (2, lambda machine, x, y: machine.cut(add(x, y))),
+    'i32.wrap_i64': (1, Wasm.cut),
     'i64.load': (1, lambda machine, address, offset: machine.load(add(address, offset), 1)[0]),
     'i64.store': (2, lambda machine, address, word, offset: machine.store(add(address, offset), [word])),
     'memory.fill': (3, Machine.clear),
+    'drop': (0, lambda _: None),  # (of a call's result, which `leave` does not keep)
     'select': (3, lambda _, one, other, chooses: one if known(chooses, 'it chooses by data') else other)}
 
 

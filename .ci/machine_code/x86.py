@@ -166,21 +166,19 @@ def added_to_both(words, one, other, table):
 
 # Each instruction computes its result from the operands that it reads by these functions. Those of ONTO also read the
 # first operand, which they write.
-UNALIGNED = 'movups', 'movupd', 'movdqu', 'movdqu32', 'movdqu64'
-MOVES = 'movaps', 'movapd', 'movdqa', 'movdqa32', 'movdqa64', *UNALIGNED
-XOR = dict.fromkeys(('pxor', 'pxord', 'pxorq', 'xorps', 'xorpd'), each(lambda x, y: x ^ y))
+UNALIGNED = 'movups', 'movdqu', 'movdqu32', 'movdqu64'
+MOVES = 'movaps', 'movdqa', 'movdqa64', *UNALIGNED
+XOR = dict.fromkeys(('pxor', 'pxord', 'xorps'), each(lambda x, y: x ^ y))
 ONTO = {
     **XOR, 'paddq': each(add), 'pmuludq': each(lambda x, y: (x & LOW) * (y & LOW)), 'por': each(lambda x, y: x | y),
-    'psrlq': each(right), 'psllq': each(left), 'vpternlogd': added_to_both, 'vpternlogq': added_to_both,
+    'psrlq': each(right), 'vpternlogq': added_to_both,
     'pshufb': by_lanes(lambda words, order: picked(words, places(order, 8, 16), 8)),
     'palignr': by_lanes(lambda high, low, count: picked((*low, *high), tuple(range(count, count + 16)), 8)),
-    'punpcklqdq': by_lanes(lambda one, other: (one[0], other[0])),
-    'punpckhqdq': by_lanes(lambda one, other: (one[1], other[1]))}
+    'punpcklqdq': by_lanes(lambda one, other: (one[0], other[0]))}
 FROM = {
     **dict.fromkeys(MOVES, tuple), 'pshufd': by_lanes(lambda words, order: picked(words, four_of(order), 32)),
     'movq': lambda word: ((word[0] if isinstance(word, tuple) else word), 0),
     'vinserti128': lambda words, other, upper: (*words[:2], *other) if upper else (*other, *words[2:]),
-    'vextracti128': lambda words, upper: words[2:] if upper else words[:2],
     'vpermq': permuted, 'vshufi64x2': by_pairs,
     'vpmovzxbq': lambda words: tuple(words[0] >> at & 0xff for at in range(0, BITS, 8)),
     'vprorq': each(lambda word, count: rotated(word, count % BITS)),

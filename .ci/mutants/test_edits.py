@@ -3,6 +3,8 @@
 import os
 import re
 import shutil
+import time
+from concurrent.futures import ThreadPoolExecutor
 from pathlib import Path
 
 import pytest
@@ -22,6 +24,10 @@ def run(top, *words):
 
 def files_of(folder):
     return {path: path.read_bytes() for path in folder.rglob('*') if path.is_file()}
+
+
+def folders_hidden_in(folder):
+    return [path for path in folder.glob('.*') if path.is_dir()]
 
 
 @pytest.fixture(scope='module')
@@ -60,6 +66,21 @@ def test_a_named_edit_is_judged_and_an_unknown_name_fails(top, judged):
     assert status == 0 and good == {'sample/good': judged[1]['sample/good']}
     assert wrong == 1 and none['no_such_edit'].startswith('FAILED: ')
     assert before and files_of(top / 'crates/sample/out/incremental') == before
+
+
+def test_another_step_may_begin_to_keep_work_meanwhile(top, judged, tmp_path):
+    """It may still be writing its work, which is neither used nor changed."""
+    out = shutil.copytree(top, tmp_path / 'top') / 'crates/sample/out'
+    shutil.rmtree(out / 'incremental')
+    names = ('good', 'of_a_trait')
+    with ThreadPoolExecutor() as pool:
+        running = pool.submit(run, tmp_path / 'top', *names)
+        while not (first := folders_hidden_in(out)) and not running.done():
+            time.sleep(.01)
+        (out / 'incremental').mkdir()
+        (out / 'incremental/proofs').write_text('begun')
+    assert first and running.result() == (0, {f'sample/{name}': judged[1][f'sample/{name}'] for name in names})
+    assert [*files_of(out / 'incremental').values()] == [b'begun'] and not folders_hidden_in(out)
 
 
 def test_an_edit_that_passed_is_judged_again_only_if_something_changes(top, judged):

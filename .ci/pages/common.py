@@ -13,7 +13,7 @@ from parts import filled, marked  # noqa: E402
 
 os.environ['PATH'] += ':/opt/rattle/bin'
 
-FIRST, HOW_TO_CHANGE, REPORTS = 'README.md', 'CONTRIBUTING.md', 'docs/reports.txt'
+FIRST, REPORTS = 'README.md', 'docs/reports.txt'
 
 
 def require(is_well, fault):

@@ -28,7 +28,8 @@ IMPORT = re.compile(BEGIN + r'((?:\w+\.)*\w+)(?:\.\{([^}]*)\}| as \w+) ?(?:;|$)'
 OF_A_TYPE = re.compile(r'\.declared\.[a-z0-9_.]*([A-Z]\w*)')
 DEFINED = r'^(?:abbrev |unfoldable )?pub (?!mod |use )(?:record |data )?([^\s({:]+)'
 BARE = re.compile(r'^(?!--(?! end$| ----)).*\n' + DEFINED, re.M)
-# A type with its fields, and its view.
+# What a crate exports of a module. A type with its fields, and its view.
+EXPORT = re.compile(r'^pub use ((?:\w+::)+)(?:(\w+)|\{([^}]*)\});', re.M)
 TYPE = re.compile(r'^ *(?:pub(?:\([a-z]+\))? )?(?:struct|type) (\w+)\b([^;{]*(?:;|\{.*?^\}))', re.M | re.S)
 VIEW = re.compile(r'^impl(?:<[^>]*>)? Model for (\w+)[^{]*\{\n.*?^\}', re.M | re.S)
 
@@ -125,15 +126,23 @@ def hash_of(texts):
     return hashlib.sha256(''.join(texts).encode()).hexdigest()[:8]
 
 
+def exported_by(crate, functions):
+    """Returns the functions that a crate's root exports, each from a module in or below which it is."""
+    found = EXPORT.findall(read(f'crates/{crate}/src/lib.rt'))
+    exports = {(name, tuple(f'{before}{path}'.split('::')[:-1])) for path, *names in found
+               for name in re.findall(r'\w+', ' '.join(names)) for before in ('', f'{crate}::')}
+    return [call for call in functions if call.is_public and not call.owner
+            and any((call.name, call.module.path[:end]) in exports for end in range(len(call.module.path) + 1))]
+
+
 def doors():
     """The doors. The page lists each file at the first door that needs it."""
     functions = Sources().functions
-    free = [call for call in functions if call.path and not call.owner]
     for_c = [call for call in functions if call.crate == 'argon2_c'
              and ('extern "C"' in contract_of(call) or call.name in STEPS)]
-    return {'Rattle': Door([call for call in free if re.fullmatch(r'argon2::\w+', call.path)]),
+    return {'Rattle': Door(exported_by('argon2', functions)),
             'C, in one call': Door([call for call in for_c if call.name not in STEPS]), 'C, with steps': Door(for_c),
-            'the program': Door([call for call in free if re.fullmatch(r'argon2_(commands|tool)::\w+', call.path)])}
+            'the program': Door(exported_by('argon2_commands', functions))}
 
 
 def check(root):

@@ -1,43 +1,28 @@
 """Writes facts that several files repeat, to each place of presets.txt: presets (crates/argon2_standard/src/config.rt),
 default limits (crates/argon2/src/limits.rt), the most threads of a stored string (stored.rt beside it), errors
-(crates/argon2_c/errors.txt), the options of C (the header), builds (build/machines.txt), the version (VERSION), who
-publishes this (PROJECT), the kits (build/kits.txt), and what runs the library as C (bindings/c/targets)."""
+(crates/argon2_c/errors.txt), the options of C (the header), builds (build/machines.txt), the kits (build/kits.txt), and
+what runs the library as C (bindings/c/targets). Version (VERSION) and publisher (PROJECT) it writes to all files."""
 
 import itertools
 import re
 import sys
 import textwrap
 
-from common import TOP, files, fill, lines, read, require, write
+from common import TOP, files, fill, lines, read, require, run, write
 from machines import flags_of_builds, machines
 
 TABLE = TOP / '.ci/pages/presets.txt'
 PRESET = re.compile(r"[{}] (?P<what>[^{}]*?): Argon2\w+, [^{}]*? pub fn (?P<name>\w+)\(\) -> Config<'a> "
                     r'ensures \{ IsPreset (?P<variant>\w+) (?P<m>\d+) (?P<t>\d+) result \}')
-OPTION = re.compile(r'^    /\* [^/]* \*/\n    ((.*?)(\w+));', re.M)
-# A type of an option: its type and a zero of it in Rust, and its type in Python.
-TYPES = {
-    'size_t': ('usize', '0', 'ctypes.c_size_t'),
-    'uint32_t': ('u32', '0', 'ctypes.c_uint32'),
-    'uint64_t': ('u64', '0', 'ctypes.c_uint64'),
-    'void *': ('*mut c_void', 'null_mut()', 'ctypes.c_void_p'),
-    'const proved_argon2_limits *': ('*const Limits', 'null()', 'ctypes.POINTER(NumberLimits)'),
-    'const proved_argon2_settings *': ('*const Settings', 'null()', 'ctypes.POINTER(Settings)'),
-    'proved_argon2_buffers *': ('*mut c_void', 'null_mut()', 'ctypes.c_void_p'),
-    'proved_argon2_progress *': ('Option<extern "C" fn(*mut c_void, u64, u64) -> c_int>', 'None', '_Progress'),
-}
-# The errors from 64 on that Go's calls return.
-OTHERS_OF_GO = 'too_costly', 'no_random_bytes', 'old_processor'
-# Errors with another meaning in Go, which passes the library no buffer that is too small.
-WORDS_OF_GO = {'out_of_memory': 'memory could not be allocated'}
+OPTION = re.compile(r'^    /\* [^/]* \*/\n    (.*?(\w+));', re.M)
 # Patterns for a placeholder's value, some by its name, and for the blank between words.
 VALUE, BLANK = r'\d(?:[\d_,]*\d)?(?: [KMG]iB)?', r'\s+(?:(?:///|//|#|\*|--) )?'
 OF_PLACEHOLDER = {
-    '.': r'[^\d().]{1,40}', 'v': r'\d+\.\d+\.\d+', **dict.fromkeys('ngh', r'[\d_]+'), 'logic': r'\w+',
-    **dict.fromkeys(('memory', 'work'), r'\d+ [KMG]iB'), 'Name': '[^\n"]*?', 'Publisher': '[^\n"<]*?',
-    'Contact': r'[^\s"<]+@[\w.-]+\w', 'Address': 'https://[^\\s"`]*', 'path': r'[\w.-]+/[\w.-]+',
-    'group': r'[\w-]+(?:\.[\w-]+)+',
-    'kits': r'rattle-kit-[\w\s`-]*\w'}
+    '.': r'[^\d().]{1,40}', **dict.fromkeys('ngh', r'[\d_]+'), 'logic': r'\w+',
+    **dict.fromkeys(('memory', 'work'), r'\d+ [KMG]iB'), 'kits': r'rattle-kit-[\w\s`-]*\w'}
+# Files where an older version or publisher may stand; examples of tests; and definitions, in which such a number means
+# something else.
+BY_HAND = ':!.ci', ':!release', ':!crates', ':!CHANGELOG.md', ':!debian/changelog', ':!debian/*.symbols'
 
 
 def one_line(text):
@@ -88,17 +73,35 @@ def project():
     number = major * 1_000_000 + minor * 1000 + patch
     require(minor < 1000 and patch < 1000, f'VERSION is {version}, which has no number')
     require(found.keys() == {'Name', 'Publisher', 'Contact', 'Address'}, f'PROJECT has {[*found]}')
-    path = found['Address'].partition('://')[2]
     return {'name': 'project', **found, 'first': f'{major}', 'v': version, 'n': f'{number}', 'g': f'{number:_}',
-            'h': f'{number + 1:_}', 'path': path, 'group': '.'.join(reversed(path.partition('/')[0].split('.')))}
+            'h': f'{number + 1:_}'}
+
+
+def spellings(version, publisher, contact, address):
+    """Returns the forms in which version and publisher stand in files, as patterns with their texts. Java's group is
+    the address from behind."""
+    path = address.partition('://')[2]
+    group = '.'.join(reversed(path.partition('/')[0].split('.')))
+    return [(rf'(?<!\d){re.escape(text)}(?!\d)', text) for text in (version, publisher, contact, path, group)]
+
+
+def write_project(known):
+    """Replaces version and publisher in all files. A header and debian/control have those of the last time."""
+    version, = re.findall('LIBRARY_VERSION "(.*)"', read('bindings/c/include/proved_argon2.h'))
+    control, = re.findall(r'^Maintainer: (.*) <(.*)>\nHomepage: (.*)$', read('debian/control'), re.M)
+    pairs = zip(spellings(version, *control), spellings(*(known[name] for name in (
+        'v', 'Publisher', 'Contact', 'Address'))))
+    for pattern, old, new in ((pattern, old, new) for (pattern, old), (_, new) in pairs if old != new):
+        found = run('git', 'grep', '--untracked', '-lIF', '-e', old, '--', *BY_HAND).stdout.splitlines()
+        for file in found:
+            write(file, re.sub(pattern, lambda _, new=new: new, read(file)))
 
 
 def options():
     """Returns what each placeholder means, for each C option."""
     header = read('bindings/c/include/proved_argon2_threads.h')
     inside = re.search(r'struct proved_argon2_options \{\n(.*?)^\}', header, re.S | re.M)[1]
-    return [{'name': name, 'declared': declared, **dict(zip(('rust', 'zero', 'python'), TYPES[kind.strip()]))}
-            for declared, kind, name in OPTION.findall(inside)]
+    return [{'name': name, 'declared': declared} for declared, name in OPTION.findall(inside)]
 
 
 def builds(machine):
@@ -124,14 +127,6 @@ def errors():
                'words': words, 'pad': ' ' * (wide - len(number + snake[name]) + 1)}
 
 
-def errors_for_go(every):
-    """The same for each error that Go has, padded for columns."""
-    found = [{**error, 'words': WORDS_OF_GO.get(error['name'], error['words'])} for error in every
-             if int(error['n']) < 64 or error['name'] in OTHERS_OF_GO]
-    wide = max(len(error['Name']) for error in found)
-    return [{**error, 'padded': error['Name'].ljust(wide), 'gap': ' ' * (3 - len(error['n']))} for error in found]
-
-
 def lists():
     """Returns each list by the name that places call it."""
     (original, *recommended), every = presets(), [*errors()]
@@ -145,7 +140,6 @@ def lists():
         'default preset': [preset for preset in recommended if preset['name'] == 'owasp2'],
         **{f'errors {first}-{end}': [error for error in every if first <= int(error['n']) < end]
            for first, end in itertools.combinations((0, 64, 128, 256), 2)},
-        'errors for Go': errors_for_go(every),
         'default limits': [default_limits()],
         'most threads of a string': [{'name': 'most', 'n': most[1]}],
         'options': options(),
@@ -200,6 +194,7 @@ def write_place(file, what, items, mark, form):
 def write_all():
     """Writes all places that can be written, and then exits if others are stale: it names all of these at once."""
     known, stale = lists(), []
+    write_project(*known['project'])
     for places, what, mark, form in (line.split(' | ', 3) for line in lines(TABLE)):
         for file in places.split():
             try:

@@ -5,18 +5,16 @@
 - a name of the code is a word with `_` or `::` between backquotes. Each part has to stand somewhere in the sources, and
   in the file to which it is a link.
 
-A page is named by a link, except in code and in pages that are packed without the others. No page and no comment of
-specs/ has a word that CONTRIBUTING.md replaces.
+A page is named by a link, except in code and in pages that are packed without the others.
 """
 
 import os
 import re
 import shutil
-from functools import cache
 from pathlib import Path
 
 import pytest
-from common import HOW_TO_CHANGE, TOP, files, read, run
+from common import TOP, files, read, run
 
 ENDINGS = {'.rt', '.antt', '.md', '.txt', '.py', '.rs', '.c', '.h', '.sh', '.edit', '.svg', '.toml', '.in'}
 FILES = files()
@@ -43,9 +41,6 @@ WORD_IN_HELP = r'(?:\brt |\||\b\d:|#     \./argon2 |"){}(?![\w-])'
 # A link with its words, its path and its heading; a page's name; and the pages that are packed without the others.
 LINK = re.compile(r'\[([^\]]*)\]\((?!\w+:)([^)\s#]*)#?([^)\s]*)\)')
 PAGE, PACKED = re.compile(r'(?<![\w/.])(?:docs/)?[A-Z][A-Z0-9]*\.md'), re.compile(r'bindings/\w+/README\.md')
-# Names, links, paths and code, which are public and so not searched; and the right column of CONTRIBUTING.md's table.
-NAMED = re.compile(r'`[^`]*`|\]\([^)]*\)|\S*(?:[_/]|::|\.\w)\S*')
-SAID_OTHERWISE = re.compile(r'^\| [^|]* \| [^|]* \| (?!Not)(\w[^|]*) \|$', re.M)
 
 
 def text_of(file):
@@ -55,14 +50,6 @@ def text_of(file):
 
 SOURCES = '\n'.join(text_of(file) for file in FILES if not re.match(r'docs/|.*\.md$|\.ci/pages/test_names', file))
 WORDS_OF_SOURCES = {*re.findall(r'\w+', '\n'.join([SOURCES, *PATHS]))}
-
-
-@cache
-def avoided():
-    table = read(HOW_TO_CHANGE).partition('\n## Words\n')[2].partition('\n## ')[0]
-    forms = ', '.join(SAID_OTHERWISE.findall(table)).split(', ')
-    assert len(forms) > 3
-    return re.compile(rf'\b(?:{"|".join(forms)})s?\b'.replace(' ', r'\s+'), re.I)
 
 
 def is_lost_path(name, page):
@@ -105,7 +92,7 @@ def faults_of_links(page, text):
 
 
 def faults(page, text, is_code):
-    """Yields what a paragraph or a line of code names that is not there, and its words that are avoided."""
+    """Yields what a paragraph or a line of code names that is not there."""
     quoted = [' '.join(quote.split()) for quote in re.findall(r'`([^`]+)`', text)]
     paths = {*(path for _, path, _ in LINK.findall(text) if path), *filter(PATH.fullmatch, ' '.join(quoted).split()),
              *re.findall(r'\.ci/[\w./]*\w', text), *PAGE.findall(text)}
@@ -116,8 +103,6 @@ def faults(page, text, is_code):
             yield from lost_words(*part.split())
     if not is_code and not PACKED.fullmatch(page):
         yield from faults_of_links(page, text)
-    if not is_code and page != HOW_TO_CHANGE:
-        yield from (f'other word for {word}' for word in avoided().findall(NAMED.sub('', text)))
 
 
 def faults_of(page, text):
@@ -138,13 +123,7 @@ def test_everything_that_a_page_names_exists(page):
     '[it](USE.md), and\n(USE.md)', 'run `.ci/pages/nothing`', 'run .ci/nothing', 'a row of `nothing.txt`',
     'it is `crates/argon2/src/nothing.rt`', 'the folder `argon2_text/specs/Nothing`', '    .ci/pages/write --nothing',
     '    ./argon2 nothing', '    proved-argon2 prove', '    cat docs/NOTHING.md', 'a `hash_of_nothing`',
-    'a `Config::nothing_of`', '[`blake2b`](crates/argon2/src/hashing.rt)', 'the Shortages of a call',
-    'a stored\ntext',
+    'a `Config::nothing_of`', '[`blake2b`](crates/argon2/src/hashing.rt)',
     *['    rt nothing NAME'] * bool(shutil.which('rt'))])
 def test_a_text_that_names_something_missing_is_rejected(text):
     assert [*faults_of('README.md', text)]
-
-
-def test_comments_of_definitions_avoid_the_misleading_words():
-    comments = {file: '\n'.join(re.findall(r'^ *-- (.*)$', read(file), re.M)) for file in files('crates/*/specs/**')}
-    assert comments and not [file for file, text in comments.items() if avoided().search(NAMED.sub('', text))]

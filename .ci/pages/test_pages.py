@@ -56,15 +56,6 @@ def test_each_open_promise_has_its_tests():
     assert len(opened) > 40 and not [row for row in opened if len(row) != 2 or not all(row)]
 
 
-def test_callers_are_told_to_clear_what_the_proved_calls_write():
-    jobs = read('bindings/c/include/proved_argon2_jobs.h')
-    written = {*re.findall(r'(?<!const )(?:proved_argon2_\w+|uint8_t) \*(job|blocks|tag)\b', jobs)}
-    stated, = re.findall(r'^\| C, the proved calls made directly \|.* \| (.*) \|$', read('SECURITY.md'), re.M)
-    assert len(written) == 3 and all(word in stated for word in ('also', *written))
-    told = re.findall(r'^\| (?:C|Rattle|JavaScript)\b.* \| (.*) \|$', read('SECURITY.md'), re.M)
-    assert len(told) == 4 and all(re.match('also |(?:the|a) password', cell) for cell in told)
-
-
 def test_the_table_for_c_has_each_call_and_the_definitions_that_its_clause_names():
     """`none` means that no call is proved. One theorem's clauses state what several calls return together. The headers
     have each parameter."""

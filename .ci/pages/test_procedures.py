@@ -1,64 +1,14 @@
-"""Instructions on pages work: the procedures of CONTRIBUTING.md and, with what is built, the commands of the first page
-and the generated text about the prover's reports."""
+"""Instructions on pages work: the commands for a release and, with what is built, those of the first page and the
+generated text about the prover's reports."""
 
 import re
 import shutil
 
 import pytest
-from common import FIRST, HOW_TO_CHANGE, TOP, Copy, read, run
+from common import FIRST, TOP, Copy, read, run
 
-PRESET = '''    /// An example's settings: Argon2id, 64 MiB, 2 passes.
-    pub fn example() -> Config<'a>
-        ensures { IsPreset Argon2id 65536 2 result }
-    {
-        preset(Variant::Argon2id, 65536, 2)
-    }
-
-'''
-ROW = 'Config::example\tConfig { ad: [], hash_length: 32, lanes: 1, mem_cost: 65536, secret: [], thread_mode: ' \
-      'Sequential, time_cost: 2, variant: Argon2id, version: Version13 } true\n'
 CONFIG, ROWS = 'crates/argon2_standard/src/config.rt', 'crates/argon2_vectors/rows.txt'
-NUMBERS, RESULTS = 'bindings/c/tests/numbers.c', 'bindings/c/tests/results.c'
-HEADER, ERRORS = 'bindings/c/include/proved_argon2', 'crates/argon2_c/errors.txt'
-CHANGED = ('CHANGELOG.md', '\nUnreleased', '\nWhat is new.\n\nUnreleased')
-# The edits of each procedure: a file, a pattern that still fits after the change (none for a new file), and a text.
-PROCEDURES = {
-    'a preset, before the others': [
-        (CONFIG, "    /// OWASP's first", PRESET + "    /// OWASP's first"),
-        (ROWS, '\nConfig::owasp1\t', f'\n{ROW}Config::owasp1\t'),
-        (NUMBERS, r'\{proved_argon2_owasp1', '{proved_argon2_example(), 64, 2, "an example"},\n        '
-         '{proved_argon2_owasp1'), CHANGED],
-    'an error of the calls for C': [
-        (ERRORS, '\n128 [|]', '\n127 | NoReason | There is no reason | no call has a reason\n128 |'),
-        ('crates/argon2_c/src/errors.rt', '    WrongBlocks,\n', '    WrongBlocks,\n\n    /// There is no reason.\n'
-         '    NoReason,\n'),
-        (NUMBERS, r'\{PROVED_ARGON2_NULL_POINTER', '{PROVED_ARGON2_NO_REASON, 127, "There is no reason"},\n    '
-         '{PROVED_ARGON2_NULL_POINTER'), CHANGED],
-    'an option of the calls for C': [
-        (f'{HEADER}_threads.h', '(?=} proved_argon2_options;)', '    /* the flags */\n    uint32_t flags;\n'),
-        (f'{HEADER}_threads.h', r'}(?=\n\n/\* proved_argon2_hash_raw with options)', ', 0}')],
-    'a default limit': [('crates/argon2/src/limits.rt', r'[\d_]+,\s+time_cost: \d+,\s+lanes: \d+',
-                         '1_048_576,\n            time_cost: 14,\n            lanes: 32'),
-                        (RESULTS, r'mem_cost == \d+ && limits.time_cost == \d+ && limits.lanes == \d+',
-                         'mem_cost == 1048576 && limits.time_cost == 14 && limits.lanes == 32')],
-    'a limit on a setting': [
-        ('crates/argon2_standard/specs/Standard/SettingsTable.antt', r'min_salt_length = \d+', 'min_salt_length = 9'),
-        ('crates/argon2_blocks/src/common.rt', r'MIN_SALT_LENGTH: u32 = \d+', 'MIN_SALT_LENGTH: u32 = 9'),
-        (f'{HEADER}.h', r'MIN_SALT_LENGTH UINT32_C\(\d+', 'MIN_SALT_LENGTH UINT32_C(9'),
-        (ERRORS, r'the salt is shorter than \d+', 'the salt is shorter than 9')],
-    'a test in Rattle': [
-        ('crates/argon2_tests/src/tests/encoding.rt', r'#\[test\]\nfn encode_string',
-         '#[test]\nfn one_is_one() {\n    assert!(1 == 1);\n}\n\n#[test]\nfn encode_string')],
-    'a test in Python': [
-        ('.ci/pages/test_example.py', None, '"""Whether one is one."""\n\n\ndef test_one():\n    assert True\n'),
-        ('.ci/CMakeLists.txt', r'judge\(.ci/pages/test_procedures.py FULL',
-         'judge(.ci/pages/test_example.py QUICK)\njudge(.ci/pages/test_procedures.py FULL')],
-    'a page': [('docs/EXAMPLE.md', None, '# An example\n\n[Using it](USE.md) has more.\n'),
-               (FIRST, '- How do I change it[?] ', '- What is an example? [An example](docs/EXAMPLE.md)\n'
-                '- How do I change it? ')],
-    'a build for a processor': [('build/machines.txt', 'x86-64: x86-64-v2 ', 'x86-64: x86-64-v1 x86-64-v2 '),
-                                ('build/machines.txt', '[+] x86-64-v2 ', '+ x86-64-v1 ssse3\n+ x86-64-v2 ')],
-}
+ERRORS = 'crates/argon2_c/errors.txt'
 PUBLISHER, CONTACT = 'A Publisher', 'security@publisher.org'
 # A publisher fills in these by hand (docs/PUBLISHING.md).
 FILLED_IN = [('PROJECT', r'(?s)Publisher: .+', f'Publisher: {PUBLISHER}\nContact: {CONTACT}\n'
@@ -71,23 +21,11 @@ UNSIGNED = {
     'a part of the packages that has no licence': ('proved-argon2.spdx', 'Concluded: MIT.*', 'Concluded: NOASSERTION'),
     'unreleased': ('CHANGELOG.md', '1 December 2026', 'Unreleased'),
     'release/ is of other sources': ('crates/argon2_c/src/errors.rt', r'\Z', '\n')}
-STEPS = ('.ci/pages/write',
-         f'gcc -I bindings/c/include -fsyntax-only {RESULTS} {NUMBERS} bindings/c/src/proved_argon2_builds.c',
-         '.ci/quick --documents')
 
 
 @pytest.fixture
 def copy(tmp_path):
     return Copy(tmp_path)
-
-
-def test_quick_tests_pass_after_all_procedures(copy):
-    """Makes the edits of all procedures in a copy, and runs all quick tests there."""
-    for file, old, new in (edit for edits in PROCEDURES.values() for edit in edits):
-        copy.change(file, old, new)
-        assert file.rpartition('/')[2] in (copy.top / HOW_TO_CHANGE).read_text() or old is None
-    for step in STEPS:
-        copy.run(*step.split())
 
 
 def test_a_new_address_replaces_the_old_one_everywhere(copy):

@@ -17,7 +17,6 @@ LANGUAGES = {
 }
 # An item of the types for JavaScript, and the end of a comment above it.
 ITEM_OF_TYPES = re.compile(r'(\*/\n)?^((?:export (?!default)|declare | {4}(?:readonly )?\w+\??: (?!typeof)).*)', re.M)
-OF_CI = re.compile(r'\.ci\b(?!/quick\b|/pages/\w+(?: (?:\*/|-->))?$)')
 
 
 @pytest.mark.parametrize('language', LANGUAGES)
@@ -48,14 +47,6 @@ def test_each_character_can_be_seen():
     signs = r'(?![\t\n\x01])\p{C}|\p{DI}|(?![ \x{A0}])\p{Z}'
     came = run('env', 'LC_ALL=C.UTF-8', 'git', 'grep', '-lIP', signs, '--', '.')
     assert came.returncode == 1, came.stdout
-
-
-def test_files_outside_of_ci_do_not_name_it():
-    """Pages may, and so may marks of parts that its scripts write, and ./package, whose releases have to pass tests."""
-    outside = [name for name in files() if not re.match(r'\.ci/|docs/|release/|setup\.cfg|.*\.md$', name)]
-    named = [f'{name}: {line}' for name in outside for line in (TOP / name).read_bytes().decode(
-        errors='replace').splitlines() if OF_CI.search(line)]
-    assert len(outside) > 500 and not named
 
 
 def test_the_texts_of_both_licences_are_the_same_wherever_they_are():

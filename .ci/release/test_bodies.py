@@ -1,5 +1,5 @@
 """No body of ours repeats one of the toolchain's, whose libraries come without a licence (NOTICE). Names are replaced
-by the order in which they come, a `let` and a number by their values. Grouping, paths and `unsafe` do not count."""
+by the order in which they come, and a number by its value. Grouping, paths and `unsafe` do not count."""
 
 import re
 from pathlib import Path
@@ -12,7 +12,7 @@ TOKEN = re.compile(r'''//.*|/\*(?s:.*?)\*/|'\w+\b(?!')|[^\W\d]\w*::|unsafe\b|(?P
                    r'''(?P<text>b?"(?:[^"\\]|\\(?s:.))*"|b?'(?:[^'\\\n]|\\[^\n]+?)')|(?P<mark>\S)''')
 NUMBER = re.compile(r'(0x[0-9a-f]+|0b[01]+|0|[1-9]\d*)(?:[iu](?:\d+|size))?', re.I)
 KEYWORDS = {*'as break const continue else false fn for if in let loop match mut ref return true while'.split()}
-CLAUSES, GROUPING, LONGEST_VALUE, LONGEST_BODY = {'requires', 'ensures', 'ghost', '{'}, '(){},;:', 16, 4000
+CLAUSES, GROUPING = {'requires', 'ensures', 'ghost', '{'}, '(){},;:'
 # The shortest body that was once a copy cuts a slice in two, and has 14 tokens. Shorter ones are calls, fields and
 # comparisons, which many functions share. Two longer ones, in tests, are equal by chance: others do different things.
 FEWEST, COMMON = 14, {'argon2_vectors words_of', 'argon2_schedule variant_of'}
@@ -42,25 +42,10 @@ def bodies(path):
             yield tokens[begin - 1][1], tokens[opened + 1:closed]
 
 
-def with_values(body):
-    """Returns the body without each short `let NAME = VALUE;`, and with VALUE for NAME behind it."""
-    at = 0
-    while at + 3 < len(body):
-        is_let = body[at][1] == 'let' and body[at + 1][0] == 'name' and body[at + 2][1] == '='
-        end = end_of(body, at + 3, {';', 'else'}) if is_let else None
-        if end and body[end][1] == ';' and end - at - 3 <= LONGEST_VALUE and len(body) < LONGEST_BODY:
-            uses = (body[k] == body[at + 1] and body[k - 1][1] != '.' for k in range(end + 1, len(body)))
-            body = body[:at] + [token for is_use, other in zip(uses, body[end + 1:])
-                                for token in (body[at + 3:end] if is_use else [other])]
-        else:
-            at += 1
-    return body
-
-
 def form(body):
     """Returns what is compared of a body."""
     names, form_of = {}, []
-    for kind, word in with_values(body):
+    for kind, word in body:
         if kind == 'name' and word not in KEYWORDS:
             form_of.append(('name', names.setdefault(word, len(names))))
         elif word not in GROUPING:

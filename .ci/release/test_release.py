@@ -10,8 +10,8 @@ import time
 
 import pytest
 from machines import machines
-from running import VERSION, in_namespace
-from shared import TOP, has_processor, output_of, run
+from running import PROVED, VERSION, in_namespace, runs_here
+from shared import TOP, output_of, run
 from test_packages import copy_tree
 
 pytestmark = pytest.mark.timeout(5400)
@@ -40,10 +40,8 @@ def test_release_is_what_is_built_here_and_has_each_machine_and_build(compared):
     assert {name.partition('/')[0] for name in FILES} == {'windows-x86_64', 'wasm32', 'portable', *machines(), *builds}
 
 
-@pytest.mark.parametrize('cpu', machines()['x86_64'].proved)
+@pytest.mark.parametrize('cpu', map(runs_here, PROVED))
 def test_the_program_verifies_the_outside_strings(compared, cpu):
-    if not has_processor(cpu):
-        pytest.skip('the processor is older')
     for line in (TOP / 'bindings/vectors/texts.txt').read_text(encoding='utf-8').splitlines():
         text, answer = line.split('\t')
         came = run(RELEASE / cpu / 'argon2_program', 'verify', text, input='password').stdout

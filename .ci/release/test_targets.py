@@ -179,8 +179,10 @@ def test_command_on_arm_prints_the_same(on_arm, words):
 def test_addon_hashes_on_arm(on_arm, tmp_path):
     """A stand-in takes the place of the part of Node that a hash needs."""
     package = TOP / 'bindings/javascript'
-    compile_for_arm(package / 'tests/addon.c', tmp_path / 'addon', '-I', package / 'addon', '-rdynamic')
-    assert output_of(*arm(tmp_path / 'addon', on_arm / 'proved_argon2.node')).strip() == f'0 0 8 {TAG}'
+    compile_for_arm(package / 'tests/addon.c', tmp_path / 'addon', '-I', package / 'addon', '-rdynamic',
+                    '-Wl,--wrap=pthread_create')
+    said = output_of(*arm(tmp_path / 'addon', on_arm / 'proved_argon2.node'))
+    assert said.count('passed: ') == 3 and TAG in said
 
 
 # ---- packages

@@ -30,13 +30,6 @@ def ready(part='x86_64'):
     return Path(output_of('build/prepare', part, stderr=subprocess.DEVNULL).strip())
 
 
-# ---- the machine
-
-def has_processor(build):
-    """Returns whether the processor runs a build of build/machines.txt for x86-64."""
-    return f'{build} (supported, searched)' in output_of('/lib64/ld-linux-x86-64.so.2', '--help')
-
-
 def checks_at_once(rt):
     """Returns how many checks fit into memory: one of the largest crate took four fifths of 3 GB."""
     return max(1, min(rt.processors(), int(rt.free() / 3_000_000_000)))

@@ -1,8 +1,6 @@
-"""Reads the sources as `rt fmt` lays them out: functions with their spans, the paths under which users find them,
-tests, and mutants."""
+"""Reads the sources as `rt fmt` lays them out: functions with their spans, and mutants."""
 
 import re
-import textwrap
 from collections import Counter
 from itertools import accumulate
 
@@ -18,9 +16,6 @@ ITEM = re.compile(r'''
         (?:extern\ "C"\ )?fn\ (?P<name>\w+)
         (?P<rest>.*\{\}$ | .*(?<!\{)(?:\n(?P=indent)(?:\ .*|\).*)(?<!\{))*?(?<=;)$ |
                  (?:.*\n)+?(?P=indent)(?:\}|(?:\).*)?\{\})$)?''', re.M | re.X)
-INNER = re.compile(r'^pub mod (\w+) \{\n(.*?)^\}', re.M | re.S)
-TYPE = re.compile(r'(?:^#\[derive\(([^)]*)\)\]\n(?:^#.*\n)*)?^pub (?:struct|enum|trait) (\w+)', re.M)
-RE_EXPORT = re.compile(r'^pub use ([\w:]+?)(?:::\{([^}]*)\})?;', re.M)
 # A clause or a ghost item, up to where its indentation comes back.
 PROMISE = re.compile(r'^( *)(?:requires|ensures|ghost)\b.*(?:\n\1(?: .*|\}.*))*', re.M)
 # The checker may put one of these before a name where it spells a trait or a type.
@@ -54,13 +49,12 @@ class Function:
     are. `owner` is, for example, `Board` or `Default for Config`. `folders` say where its proofs are below proofs/."""
 
     def __init__(self, module, found, owner):
-        self.module, self.name, self.indent, self.path = module, found['name'], found['indent'], None
+        self.module, self.name, self.indent = module, found['name'], found['indent']
         if found['rest'] is None:
             raise ValueError(f'the function {self.name} has no end where `rt fmt` puts it')
         self.begin = found.string.count('\n', 0, found.start()) + 1
         self.first = self.begin + found['attributes'].count('\n')
         self.last = self.first + found['rest'].count('\n')
-        self.is_test = '#[test]' in found['attributes']
         self.is_public = found['visibility'] == 'pub ' or bool(owner and owner['of_trait'])
         self.what = owner['trait'] or '' if owner and self.indent else ''
         self.of = re.sub('<.*', '', owner['owner'].strip()) if owner and self.indent else ''
@@ -75,70 +69,27 @@ class Function:
 
 
 class Module:
-    """One file of src/, or a public module within one, whose `file` is None: its functions, the names that users see,
-    and the paths of those names that it re-exports."""
+    """One file of src/: its functions."""
 
-    def __init__(self, path, text, file=None):
-        self.path, self.text, self.file = path, text, file
-        self.is_test = 'tests' in path[1:]
-        self.types = {name: derives for derives, name in TYPE.findall(text)}
-        passed_on = (item for at, names in RE_EXPORT.findall(text.replace('pub use crate::', f'pub use {path[0]}::'))
-                     for item in [f'{at}::{name}' for name in re.findall(r'\w+', names)] or [at])
-        self.exports = {item.split('::')[-1]: tuple(item.split('::')) for item in passed_on}
+    def __init__(self, file, crate):
+        parts = file.relative_to(TOP / 'crates' / crate / 'src').with_suffix('').parts
+        self.path = (crate, *(parts if parts not in (('lib',), ('main',)) else ()))
+        self.file, self.text = file, file.read_text(encoding='utf-8')
         owner, self.functions = None, []
-        for found in ITEM.finditer(text if file else ''):
+        for found in ITEM.finditer(self.text):
             if found['name']:
                 self.functions.append(Function(self, found, owner))
             else:
                 owner = found['owner'] and found
-        functions = (f.name for f in self.functions if f.is_public and not f.owner)
-        self.names = {*self.types, *self.exports, *re.findall(r'^pub mod (\w+)(?:;| \{)', text, re.M), *functions}
 
 
 class Sources:
-    """All crates."""
+    """The functions of all crates."""
 
     def __init__(self):
-        self.modules = {}
-        for crate in crates():
-            for file in sorted(TOP.glob(f'crates/{crate}/src/**/*.rt')):
-                self.read(file, crate)
-        self.functions = [f for module in self.modules.values() for f in module.functions]
-        self.tests = {f.name: f for f in self.functions if f.is_test}
-        texts = '\n'.join(module.text for module in self.modules.values())
-        self.hidden = {'Model', *re.findall(r'^(?:pub\(crate\) )?trait (\w+)', texts, re.M)}
-        self.places = {}  # an item's public path, by the place where it stands
-        for crate in crates():
-            self.walk((crate,), (crate,))
-        for function in (f for f in self.functions if not f.module.is_test):
-            function.path = self.path_of(function)
-
-    def read(self, file, crate):
-        """Adds the module of a file, and those within it."""
-        parts = file.relative_to(TOP / 'crates' / crate / 'src').with_suffix('').parts
-        path, text = (crate, *(parts if parts not in (('lib',), ('main',)) else ())), file.read_text(encoding='utf-8')
-        inner = {(*path, name): textwrap.dedent(inside) for name, inside in INNER.findall(text)}
-        self.modules |= {path: Module(path, text, file), **{at: Module(at, inside) for at, inside in inner.items()}}
-
-    def walk(self, place, public):
-        """Notes the public path of an item, preferably in argon2 and then the shortest, and of all that is in it."""
-        holder, module = self.modules.get(place[:-1]), self.modules.get(place)
-        if holder and place[-1] in holder.exports:
-            path = holder.exports[place[-1]]
-            return self.walk(path if path[:1] in self.modules else holder.path + path, public)
-        known = self.places.get(place)
-        if not known or (public[0] != 'argon2', len(public)) < (known[0] != 'argon2', len(known)):
-            self.places[place] = public
-            for name in module.names if module else ():
-                self.walk((*place, name), (*public, name))
-
-    def path_of(self, function):
-        """Returns the public path of a function, or None where users do not reach it."""
-        what, of, name = function.what, function.of, function.name
-        place = '::'.join(self.places.get(function.module.path + (of or name,), ()))
-        if not place or what in self.hidden or not (what or function.is_public):
-            return None
-        return f'{what} for {place}' if what else f'{place}::{name}' if of else place
+        modules = [Module(file, crate) for crate in crates()
+                   for file in sorted(TOP.glob(f'crates/{crate}/src/**/*.rt'))]
+        self.functions = [f for module in modules for f in module.functions]
 
 
 class Edit:
@@ -176,7 +127,7 @@ class Edit:
     def faults(self, counts, sources):
         if not self.pairs:
             yield f'it is no edit: {self.text}'
-        if (self.crate,) not in sources.modules:
+        if self.crate not in crates():
             yield 'crates.txt lacks its crate'
         if self.verdict not in (REFUSED, PROVED):
             yield f'it is neither {REFUSED} nor {PROVED}, but {self.verdict}'
