@@ -1,6 +1,5 @@
 """Has `.ci/mutants/edits` judge edits of each kind, right and wrong, in small crates (tests.txt)."""
 
-import os
 import re
 import shutil
 import time
@@ -18,7 +17,7 @@ FILES = re.findall(r'^=== (\S+)\n(.*?)(?=^===|\Z)', TESTS.read_text(encoding='ut
 
 
 def run(top, *words):
-    ran = shared.run(top / '.ci/mutants/edits', *words, env={**os.environ, 'XDG_CACHE_HOME': f'{top}/cache'})
+    ran = shared.run(top / '.ci/mutants/edits', *words)
     return ran.returncode, dict(re.findall(r'^(\S+): (.*)$', ran.stdout, re.M))
 
 
@@ -83,12 +82,17 @@ def test_another_step_may_begin_to_keep_work_meanwhile(top, judged, tmp_path):
     assert [*files_of(out / 'incremental').values()] == [b'begun'] and not folders_hidden_in(out)
 
 
-def test_an_edit_that_passed_is_judged_again_only_if_something_changes(top, judged):
-    """Edits that failed are judged again each time."""
-    good, harmless = ({name: judged[1][name]} for name in ('sample/good', 'sample/harmless'))
-    assert [run(top, *words, 'good') for words in (['--kept'], ['--kept'], [])] == [(0, good), (0, {}), (0, good)]
-    assert run(top, '--kept', 'harmless') == run(top, '--kept', 'harmless') == (1, harmless)
+def test_a_crate_whose_mutants_passed_is_judged_again_only_if_something_changes(top, judged, tmp_path):
+    """A crate with a mutant that failed is judged each time."""
+    top = shutil.copytree(top, tmp_path / 'top')
+    for file in top.glob(f'crates/*/{MUTANTS}'):
+        file.unlink()
+    both = 0, {name: judged[1][name] for name in ('sample/good', 'sample/good_too')}
+    assert [run(top, word) for word in ('--new', '--write', '--new', '--write')] == [both, both, (0, {}), (0, {})]
     for file, sign in (('crates/sample/src/lib.rt', '//'), ('.ci/mutants/edits', '#')):
         with (top / file).open('a', encoding='utf-8') as changed:
             changed.write(f'\n{sign} another line\n')
-        assert [run(top, '--kept', 'good') for _ in range(2)] == [(0, good), (0, {})]
+        assert [run(top, word) for word in ('--write', '--new')] == [both, (0, {})]
+    harmless = 'file: src/lib.rt\nold: half + half\nnew: half + half + 0\ngoal: returns-clause-value\n'
+    (top / f'crates/sample/{MUTANTS}').write_text(f'refused harmless\n{harmless}', encoding='utf-8')
+    assert [(status, len(said)) for status, said in (run(top, word) for word in ('--write', '--new'))] == [(1, 3)] * 2
