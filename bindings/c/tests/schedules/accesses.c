@@ -1,10 +1,23 @@
 /* Watches how the driver accesses memory. gcc's -fsanitize=thread compiles each access to a call of these functions,
  * which are usually those of libtsan. Here another thread may run before each atomic access. Memory is sequentially
  * consistent. */
-#include "accesses.h"
+#include "explore.h"
+#include <sanitizer/asan_interface.h>
 
 /* gcc declares these functions itself, with other types. */
 #pragma GCC diagnostic ignored "-Wbuiltin-declaration-mismatch"
+
+static void access_bytes(const void *at, size_t len)
+{
+    const char *const last = (const char *)at + len - 1;
+    must(!__asan_address_is_poisoned(at) && !__asan_address_is_poisoned(last), "memory that exists");
+}
+
+static void access_atomically(const void *at, size_t len)
+{
+    come_to(at);
+    access_bytes(at, len);
+}
 
 /* This is called before main. */
 void __tsan_init(void)

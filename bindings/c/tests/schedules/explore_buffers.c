@@ -1,159 +1,82 @@
 /* Runs callers of kept buffers (proved_argon2_buffers.c) in every way in which they can go, each way in its own run.
- * This file replaces the hashes, the system and the clock: it chooses what happens, and watches which buffers the
- * callers use. It tries each choice in all ways (choices.c).
+ * This file replaces the hashes, the system and the clock: it chooses what happens (explore.c), and watches which
+ * buffers the callers use.
  *
  *     explore_buffers CALLERS CALLS MOST SWITCHES    prints how many runs there were, or the first fault
  *
  * Each caller makes CALLS calls with a handle of at most MOST buffers. Callers are run one at a time. Another may run
  * before each atomic access (accesses.c), and during each hash, at most SWITCHES times. In a run one buffer may be
  * denied, the time may pass after which idle buffers are freed, and a hash may fork: its process then goes on as the
- * child, which has no other caller. */
-#include "accesses.h"
-#include "choices.h"
+ * child, which has no other caller. The callers are the threads from number 1 on. Thread 0 begins them, and looks at
+ * what they leave. */
 #include "driver.h"
-#include <stdio.h>
-#include <stdlib.h>
-#include <ucontext.h>
+#include "explore.h"
 
-enum { MOST_CALLERS = 3, MOST_BUFFERS = 64, KIB = 1024 };
+enum { NOBODY, LOST = MOST_THREADS, MOST_BUFFERS = 64, KIB = 1024 };
 #define MILLISECOND UINT64_C(1000000) /* in nanoseconds */
 #define IDLE (10000 * MILLISECOND)
 #define STEP (MILLISECOND * 3 / 2) /* from one look at the clock to the next */
 
 static struct {
-    uint32_t callers, calls, most, switches;
+    uint32_t callers, calls, most;
 } asked;
-
-static void must(bool holds, const char *what)
-{
-    if (!holds) {
-        report(what);
-    }
-}
 
 /* ---- what a run has come to */
 
-enum { NOBODY = MOST_CALLERS, A_LOST_ONE };
-
 static struct buffer {
-    bool is_live;
-    uint32_t user;  /* a caller, NOBODY, or a caller that the child does not have */
+    uint32_t user;  /* a caller, NOBODY, or LOST if a caller uses it that the child does not have */
     uint64_t since; /* when it became idle */
     char memory[8];
-} all[MOST_BUFFERS];
+} all[MOST_BUFFERS]; /* in the order in which they were taken */
 
 static struct run {
     uint64_t now;
-    uint32_t switches, buffers; /* switches without need, and buffers that were made */
+    uint32_t left; /* callers that are not done */
     bool is_denied, is_late, is_forked, is_ending;
     proved_argon2_buffers *handle;
-    struct buffer *used[MOST_CALLERS]; /* what a caller gives back when it looks at the clock next, or null */
+    struct buffer *used[MOST_THREADS]; /* what a caller gives back when it looks at the clock next, or null */
 } run;
 
 static uint32_t live(void)
 {
     uint32_t count = 0;
-    for (uint32_t i = 0; i < run.buffers; i++) {
-        count += all[i].is_live && all[i].user != A_LOST_ONE;
+    for (size_t i = 0; i < taken_count; i++) {
+        count += taken[i].is_live && all[i].user != LOST;
     }
     return count;
 }
 
-/* ---- callers, of which one runs at a time */
-
-static struct caller_thread {
-    ucontext_t context;
-    bool is_over;
-    _Alignas(16) char stack[1 << 16];
-} threads[MOST_CALLERS];
-static ucontext_t ends;
-static uint32_t current;
-static bool are_callers_here;
-
-/* Goes on with this caller, or with another: if this one is over, and also as often as SWITCHES says. */
-static void go_on(void)
+static struct buffer *buffer_of(const void *memory)
 {
-    uint32_t ready[MOST_CALLERS], count = 0;
-    for (uint32_t i = 0; are_callers_here && i < asked.callers; i++) {
-        const uint32_t next = i == 0 ? current : i - (i <= current);
-        if (!threads[next].is_over) {
-            ready[count++] = next;
-        }
-    }
-    if (count == 0) {
-        return;
-    }
-    const bool is_free = threads[current].is_over || run.switches < asked.switches;
-    const uint32_t before = current, next = ready[count > 1 && is_free ? choose(count) : 0];
-    run.switches += next != before && !threads[before].is_over;
-    current = next;
-    if (next != before) {
-        swapcontext(&threads[before].context, &threads[next].context);
-    }
-}
-
-void access_bytes(const void *at, size_t len)
-{
-    (void)at;
-    (void)len;
-}
-
-void access_atomically(const void *at, size_t len)
-{
-    (void)at;
-    (void)len;
-    go_on();
-}
-
-bool fails_spuriously(void)
-{
-    return false;
-}
-
-/* The callers that the child does not have leave what they use as it is. */
-static void fork_here(void)
-{
-    run.is_forked = true;
-    for (uint32_t i = 0; i < asked.callers; i++) {
-        threads[i].is_over = threads[i].is_over || i != current;
-    }
-    for (uint32_t i = 0; i < run.buffers; i++) {
-        all[i].user = all[i].user == NOBODY || all[i].user == current ? all[i].user : A_LOST_ONE;
-    }
+    return &all[find_taken(memory) - taken];
 }
 
 /* ---- the system, the clock, and what else the buffers need */
 
-caller proved_driver_keep_caller(void)
+void come_to(const void *at)
 {
-    return (caller){0};
+    (void)at;
+    switch_threads(false);
 }
 
-void proved_driver_restore_caller(caller saved)
+/* The callers that the child does not have leave what they use as it is. */
+static void fork_callers(void)
 {
-    (void)saved;
+    fork_here();
+    run.left = 1;
+    for (size_t i = 0; i < taken_count; i++) {
+        all[i].user = all[i].user == NOBODY || all[i].user == current ? all[i].user : LOST;
+    }
 }
 
 void *proved_driver_take_buffer(uint64_t bytes)
 {
     must(bytes == KIB && live() < asked.most, "there are no more buffers than allowed");
-    if (are_callers_here && !run.is_denied && choose(2) == 1) {
-        run.is_denied = true;
+    if (current != 0 && happens_once(&run.is_denied)) {
         return NULL;
     }
-    all[run.buffers] = (struct buffer){.is_live = true, .user = NOBODY};
-    return all[run.buffers++].memory;
-}
-
-static struct buffer *buffer_of(void *memory)
-{
-    for (uint32_t i = 0; i < run.buffers; i++) {
-        if (all[i].memory == memory && all[i].is_live) {
-            return &all[i];
-        }
-    }
-    must(false, "a buffer that exists");
-    return NULL;
+    all[taken_count] = (struct buffer){.user = NOBODY};
+    return take(all[taken_count].memory, KIB, 0);
 }
 
 void proved_argon2_memory_free(void *memory, size_t len)
@@ -161,22 +84,20 @@ void proved_argon2_memory_free(void *memory, size_t len)
     if (memory == NULL) {
         return;
     }
-    struct buffer *const buffer = buffer_of(memory);
-    must(buffer->user == NOBODY || (buffer->user == A_LOST_ONE && !are_callers_here), "a freed buffer is not in use");
-    must(len == KIB, "all of it is freed");
+    const struct buffer *const buffer = buffer_of(memory);
+    must(buffer->user == NOBODY || (buffer->user == LOST && current == 0), "a freed buffer is not in use");
     must(run.is_ending || run.now - buffer->since >= IDLE, "it was idle for ten seconds, unless the handle is freed");
-    buffer->is_live = false;
+    must(give_back(memory, 0) == len, "all of it is freed");
 }
 
 /* The time may pass once, and then once more at the end. */
 uint64_t proved_driver_now(void)
 {
-    if (are_callers_here && !run.is_late && choose(2) == 1) {
-        run.is_late = true;
+    if (current != 0 && happens_once(&run.is_late)) {
         run.now += IDLE;
     }
     run.now += STEP;
-    if (are_callers_here && run.used[current] != NULL) {
+    if (run.used[current] != NULL) {
         run.used[current]->since = run.now;
         run.used[current] = NULL;
     }
@@ -205,11 +126,11 @@ uint32_t proved_driver_compute(struct call *call, const uint8_t *hash, uint8_t *
     struct buffer *const buffer = buffer_of(call->with.memory);
     must(call->with.memory_len == KIB && buffer->user == NOBODY, "nobody else uses the buffer");
     buffer->user = current;
-    go_on();
-    if (!run.is_forked && are_callers_here && choose(2) == 1) {
-        fork_here();
+    switch_threads(false);
+    if (current != 0 && happens_once(&run.is_forked)) {
+        fork_callers();
     }
-    must(buffer->is_live && buffer->user == current, "a used buffer stays");
+    must(buffer_of(call->with.memory) == buffer && buffer->user == current, "a used buffer stays");
     buffer->user = NOBODY;
     run.used[current] = buffer;
     return PROVED_ARGON2_OK;
@@ -231,37 +152,28 @@ static void call_often(void)
     for (uint32_t i = 0; i < asked.calls; i++) {
         (void)make_call();
     }
-    threads[current].is_over = true;
-    go_on();
-    setcontext(&ends);
+    states[current] = DONE;
+    run.left--;
+    states[0] = run.left == 0 ? READY : WAITING;
+    switch_threads(true);
 }
 
 static void run_callers(void)
 {
-    volatile bool is_begun = false;
-    for (uint32_t i = 0; i < asked.callers; i++) {
-        struct caller_thread *const thread = &threads[i];
-        getcontext(&thread->context);
-        thread->context.uc_stack = (stack_t){.ss_sp = thread->stack, .ss_size = sizeof thread->stack};
-        makecontext(&thread->context, call_often, 0);
-        thread->is_over = false;
+    run.left = asked.callers;
+    for (uint32_t i = 1; i <= asked.callers; i++) {
+        begin_thread(i, call_often);
     }
-    current = 0;
-    are_callers_here = true;
-    getcontext(&ends);
-    if (!is_begun) {
-        is_begun = true;
-        setcontext(&threads[0].context);
-    }
-    are_callers_here = false;
+    states[0] = WAITING;
+    switch_to(1);
 }
 
 /* In how many milliseconds the first of the idle buffers will have been idle for ten seconds, or 0 if there is none. */
 static uint64_t time_left(void)
 {
     uint64_t next = UINT64_MAX;
-    for (uint32_t i = 0; i < run.buffers; i++) {
-        next = all[i].is_live && all[i].since < next ? all[i].since : next;
+    for (size_t i = 0; i < taken_count; i++) {
+        next = taken[i].is_live && all[i].since < next ? all[i].since : next;
     }
     return next == UINT64_MAX ? 0 : (next + IDLE - run.now + MILLISECOND - 1) / MILLISECOND;
 }
@@ -277,29 +189,21 @@ static void look_at_end(void)
     must(run.is_forked || (live() == 0 && make_call()), "all buffers are freed, and a later call makes one");
     run.is_ending = true;
     proved_argon2_buffers_free(run.handle);
-    for (uint32_t i = 0; i < run.buffers; i++) {
-        must(!all[i].is_live, "all buffers are freed with the handle");
-    }
 }
 
-int main(int count, char **words)
+static void run_handle(void)
 {
     const proved_argon2_settings settings = {PROVED_ARGON2_ID, 0x13, 1, 1, 1, 32};
-    unsigned long long runs = 0;
-    if (count != 5) {
-        return 2;
-    }
-    asked.callers = (uint32_t)atoi(words[1]);
-    asked.calls = (uint32_t)atoi(words[2]);
-    asked.most = (uint32_t)atoi(words[3]);
-    asked.switches = (uint32_t)atoi(words[4]);
-    do {
-        run = (struct run){.now = IDLE};
-        must(proved_argon2_buffers_new(&settings, asked.most, &run.handle) == PROVED_ARGON2_OK, "a handle");
-        run_callers();
-        look_at_end();
-        runs++;
-    } while (has_another_run());
-    printf("%llu runs\n", runs);
-    return 0;
+    run = (struct run){.now = IDLE};
+    must(proved_argon2_buffers_new(&settings, asked.most, &run.handle) == PROVED_ARGON2_OK, "a handle");
+    run_callers();
+    look_at_end();
+}
+
+uint64_t explore_all(const uint32_t *numbers)
+{
+    asked.callers = numbers[0];
+    asked.calls = numbers[1];
+    asked.most = numbers[2];
+    return explore("kept buffers", numbers[3], run_handle);
 }

@@ -1,6 +1,6 @@
-/* Runs a call of the compiled driver in every way in which it can go, each way in its own run. This
- * file replaces the system (platform.h), the heap, the proved calls, and the caller's progress callback: it
- * chooses what happens (choices.c), and watches what the driver does and which memory it accesses (accesses.c).
+/* Runs a call of the compiled driver in every way in which it can go, each way in its own run. This file replaces the
+ * system (platform.h), the heap, the proved calls, and the caller's progress callback: it chooses what happens, and
+ * watches what the driver does (explore.c) and which memory it accesses (accesses.c).
  *
  *     explore_schedules LANES THREADS PASSES SWITCHES    prints how many runs there were, or the first fault with its
  *     choices
@@ -15,38 +15,24 @@
 #define _GNU_SOURCE
 #define PROVED_ARGON2_NULL_H /* (the driver's calls are those here) */
 #define PROVED_ARGON2_PASSWORD_H
-#include "accesses.h"
-#include "choices.h"
 #include "driver.h"
+#include "explore.h"
 #include "places.h"
 #include <errno.h>
-#include <sanitizer/asan_interface.h>
-#include <sanitizer/common_interface_defs.h>
 #include <stdio.h>
 #include <stdlib.h>
 #include <string.h>
-#include <ucontext.h>
 
-enum { MOST_TAKEN = 4, TAG = 4, ERROR_BEFORE = 77, KIB = 1024, KINDS = 32 };
-enum { LONG = 4 * KIB }; /* blocks of a lane in a slice, which only its own thread takes */
+enum { TAG = 4, KIB = 1024, KINDS = 32 };
+/* So many blocks of a lane in a slice that only its own thread takes them: one more than the driver's SHORT_PART. */
+enum { LONG = 2 * KIB + 1 };
 
 /* ---- what is asked */
 
 static struct {
-    uint32_t lanes, threads, passes, switches, segment;
+    uint32_t lanes, threads, passes, segment;
     bool is_large, is_callers, is_verdict, has_progress, is_long;
 } asked;
-
-void must(bool holds, const char *what)
-{
-    char violated[200];
-    if (!holds) {
-        snprintf(violated, sizeof violated, "%s;%s%s%s%s%s", what, asked.is_large ? " large" : "",
-            asked.is_callers ? " caller's memory" : "", asked.is_verdict ? " verdict" : "",
-            asked.has_progress ? " progress" : "", asked.is_long ? " long" : "");
-        report(violated);
-    }
-}
 
 /* ---- what a run has come to */
 
@@ -60,16 +46,7 @@ static struct run {
     uint32_t begun, filled;   /* lanes, a bit for each */
     uint64_t stage, reported; /* slices that are filled, or are being filled, and those that were reported */
     size_t overwritten;       /* bytes of the arena */
-    bool is_finished, is_dirty, is_forked, is_caller_saved;
-    uint32_t switches;          /* how often it switched threads without need */
-    bool has_failed_spuriously; /* an exchange did, spuriously */
-    struct taken {
-        void *at;
-        size_t len;
-        enum kind kind;
-        bool is_live;
-    } taken[MOST_TAKEN];
-    size_t count;
+    bool is_finished, is_dirty, is_forked;
 } run;
 
 static uint32_t all_lanes(void)
@@ -97,52 +74,7 @@ static bool fails(uint32_t code)
     return true;
 }
 
-/* ---- threads, of which one runs at a time */
-
-static struct thread {
-    ucontext_t context;
-    void *fake;
-    uint32_t woken, waited; /* how often */
-    enum { READY, WAITING, DONE } state;
-    _Alignas(16) char stack[1 << 16];
-} threads[MOST_THREADS];
-
-struct team {
-    uint32_t members;
-};
-
-static team one_team;
-static bool is_team, is_joining;
-static uint32_t current;
-static void (*member_runs)(void *arg, team *own, uint32_t number);
-static void *member_arg;
-
-/* The first thread is the caller's, over the stack of this process. */
-static const void *bottom_of_caller;
-static size_t size_of_caller;
-
-static void switch_to(uint32_t next)
-{
-    struct thread *const before = &threads[current];
-    if (next == current) {
-        return;
-    }
-    current = next;
-    __sanitizer_start_switch_fiber(before->state == DONE ? NULL : &before->fake,
-        next == 0 ? bottom_of_caller : threads[next].stack, next == 0 ? size_of_caller : sizeof threads[next].stack);
-    swapcontext(&before->context, &threads[next].context);
-    __sanitizer_finish_switch_fiber(before->fake, NULL, NULL);
-}
-
 /* ---- the model, which must allow each run */
-
-#define MOVES(X) X(Wakes) X(Enters) X(Claims) X(Writes) X(Completes) X(Fails) X(Advances) X(Stops)
-#define VALUE(name) name,
-#define TEXT(name) #name,
-
-enum move { MOVES(VALUE) ALL_MOVES };
-static const char *const move_names[] = {MOVES(TEXT)};
-static uint64_t made[ALL_MOVES]; /* over all runs */
 
 static struct model {
     const struct call *call;
@@ -152,18 +84,12 @@ static struct model {
     bool is_over;
 } model;
 
-#include "team_moves.h" /* whether Team.antt allows each move (moves.py) */
+#include "team_moves.h" /* the moves of Team.antt (moves.py) */
 
 /* The worker that has a lane. */
 static uint64_t worker_of(uint64_t lane)
 {
     return lane * model.call->tasks / asked.lanes;
-}
-
-static void make(enum move move, bool can)
-{
-    must(can, move_names[move]);
-    made[move]++;
 }
 
 static bool is_at_work(void)
@@ -192,12 +118,15 @@ static void move_workers(bool are_in_step)
         if (model.state[i] % 2 == are_in_step && model.state[i] != worker->state) {
             const uint64_t step = model.state[i] / 2;
             if (!are_in_step) {
-                make(Claims, can_Claims(step, i) && is_own(step) && worker->state == model.state[i] + 1);
+                must(is_own(step) && worker->state == model.state[i] + 1, "Claims");
+                make_Claims(step, i);
                 model.owner[i] = current;
             } else if (worker->code == 0) {
-                make(Completes, can_Completes(step, i) && model.owner[i] == current);
+                must(model.owner[i] == current, "Completes");
+                make_Completes(step, i);
             } else {
-                make(Fails, can_Fails(step, i, worker->code) && model.owner[i] == current);
+                must(model.owner[i] == current, "Fails");
+                make_Fails(step, i, worker->code);
             }
             model.state[i]++;
         }
@@ -213,7 +142,7 @@ static void look_at_moves(void)
     }
     move_workers(true);
     if (model.step != call->step && run.code == PROVED_ARGON2_OK) {
-        make(Advances, can_Advances());
+        make_Advances();
         model.step++;
         if (has_places()) {
             see_advance();
@@ -221,50 +150,37 @@ static void look_at_moves(void)
     }
     move_workers(false);
     if (call->is_over && !model.is_over) {
-        make(Stops, can_Stops());
+        make_Stops();
         model.is_over = true;
     }
 }
 
-/* Goes on with this thread, or with another: if this one cannot, and also as often as SWITCHES says. */
+/* ---- threads */
+
+struct team {
+    uint32_t members;
+};
+
+static team one_team;
+static bool is_team;
+static void (*member_runs)(void *arg, team *own, uint32_t number);
+static void *member_arg;
+static struct {
+    uint32_t woken, waited; /* how often */
+} threads[MOST_THREADS];
+
 static void go_on(void)
 {
-    uint32_t ready[MOST_THREADS], count = 0;
     look_at_moves();
-    if (!is_team || run.is_forked) {
-        return;
-    }
-    for (uint32_t i = 0; i <= one_team.members; i++) {
-        const uint32_t next = i == 0 ? current : i - (i <= current);
-        if (threads[next].state == READY) {
-            ready[count++] = next;
-        }
-    }
-    must(count > 0, "some thread can go on");
-    const unsigned way = count > 1 && run.switches < asked.switches ? choose(count) : 0;
-    run.switches += way != 0;
-    switch_to(ready[way]);
+    switch_threads(false);
 }
 
 static void run_member(void)
 {
-    __sanitizer_finish_switch_fiber(
-        NULL, bottom_of_caller == NULL ? &bottom_of_caller : NULL, size_of_caller == 0 ? &size_of_caller : NULL);
     member_runs(member_arg, &one_team, current);
-    threads[current].state = DONE;
-    threads[0].state = is_joining ? READY : threads[0].state;
+    states[current] = DONE;
+    states[0] = states[0] == JOINING ? READY : states[0];
     go_on();
-}
-
-static void begin_member(uint32_t number)
-{
-    struct thread *const thread = &threads[number];
-    __asan_unpoison_memory_region(thread->stack, sizeof thread->stack);
-    getcontext(&thread->context);
-    thread->context.uc_stack = (stack_t){.ss_sp = thread->stack, .ss_size = sizeof thread->stack};
-    makecontext(&thread->context, run_member, 0);
-    thread->state = READY;
-    thread->woken = thread->waited = 0;
 }
 
 team *proved_driver_start_team(uint32_t count, void (*runs)(void *arg, team *own, uint32_t number), void *arg)
@@ -278,12 +194,10 @@ team *proved_driver_start_team(uint32_t count, void (*runs)(void *arg, team *own
     one_team.members = granted;
     member_runs = runs;
     member_arg = arg;
-    is_joining = false;
-    threads[0].woken = threads[0].waited = 0;
-    threads[0].state = READY;
+    memset(threads, 0, sizeof threads);
     add_members(granted);
     for (uint32_t i = 1; i <= granted; i++) {
-        begin_member(i);
+        begin_thread(i, run_member);
     }
     go_on();
     return &one_team;
@@ -299,18 +213,18 @@ void proved_driver_wake(team *own, uint32_t number)
     must(is_team && own == &one_team && !run.is_forked && number <= own->members, "a thread of the team is woken");
     look_at_moves();
     if (number != 0 && !model.is_over) {
-        make(Wakes, current == 0 && can_Wakes(number) && model.woken[number] == model.step);
+        must(current == 0 && model.woken[number] == model.step, "Wakes");
+        make_Wakes(number);
         model.woken[number]++;
     }
     see_wake(current, number);
     threads[number].woken++;
-    threads[number].state = threads[number].state == WAITING ? READY : threads[number].state;
+    states[number] = states[number] == WAITING ? READY : states[number];
     go_on();
 }
 
 void proved_driver_await(team *own, uint32_t number)
 {
-    struct thread *const self = &threads[number];
     if (own == NULL || run.is_forked) {
         return;
     }
@@ -318,38 +232,24 @@ void proved_driver_await(team *own, uint32_t number)
     look_at_moves();
     see_wait(number);
     go_on();
-    while (self->woken == self->waited) {
-        self->state = WAITING;
+    while (threads[number].woken == threads[number].waited) {
+        states[number] = WAITING;
         go_on();
     }
-    self->waited++;
+    threads[number].waited++;
     see_awake(number);
     if (number != 0 && is_at_work() && !model.call->is_over) {
-        make(Enters, can_Enters(number));
+        make_Enters(number);
         model.entered[number]++;
     }
 }
 
-void access_bytes(const void *at, size_t len)
-{
-    const char *const last = (const char *)at + len - 1;
-    must(!__asan_address_is_poisoned(at) && !__asan_address_is_poisoned(last), "memory that exists");
-}
-
-void access_atomically(const void *at, size_t len)
+void come_to(const void *at)
 {
     go_on();
-    access_bytes(at, len);
     if (has_places()) {
         see_access(current, at);
     }
-}
-
-bool fails_spuriously(void)
-{
-    const bool fails_now = !run.has_failed_spuriously && choose(2) == 1;
-    run.has_failed_spuriously = run.has_failed_spuriously || fails_now;
-    return fails_now;
 }
 
 void proved_driver_end_team(team *own)
@@ -357,11 +257,10 @@ void proved_driver_end_team(team *own)
     must(own == NULL || is_team, "a team ends once");
     must(current == 0, "the caller's thread ends it");
     if (own != NULL && !run.is_forked) {
-        is_joining = true;
         must(threads[0].woken == threads[0].waited, "the caller has waited for each part that another took");
         for (uint32_t i = 1; i <= own->members; i++) {
-            while (threads[i].state != DONE) {
-                threads[0].state = WAITING;
+            while (states[i] != DONE) {
+                states[0] = JOINING;
                 go_on();
             }
             must(run.code != PROVED_ARGON2_OK || threads[i].woken == 4 * asked.passes + 2,
@@ -375,37 +274,6 @@ void proved_driver_end_team(team *own)
 }
 
 /* ---- the rest of the system */
-
-caller proved_driver_keep_caller(void)
-{
-    run.is_caller_saved = true;
-    return (caller){.error = errno, .cancel = 5};
-}
-
-void proved_driver_restore_caller(caller saved)
-{
-    must(saved.cancel == 5, "what was saved of the caller is restored");
-    errno = saved.error;
-}
-
-static void *take(void *at, size_t len, enum kind kind)
-{
-    must(run.count < MOST_TAKEN, "few things are taken");
-    run.taken[run.count++] = (struct taken){at, len, kind, true};
-    return at;
-}
-
-static size_t give_back(void *at, enum kind kind)
-{
-    for (size_t i = 0; i < run.count; i++) {
-        if (run.taken[i].at == at && run.taken[i].kind == kind && run.taken[i].is_live) {
-            run.taken[i].is_live = false;
-            return run.taken[i].len;
-        }
-    }
-    must(false, "what is freed was allocated in the same way");
-    return 0;
-}
 
 void *proved_driver_take_lines(size_t bytes)
 {
@@ -452,18 +320,24 @@ void *__wrap_calloc(size_t count, size_t len)
     return fails(PROVED_ARGON2_OUT_OF_MEMORY) ? NULL : take(__real_calloc(count, len), count * len, kind);
 }
 
-/* Workers are freed before bytes are. */
+static bool is_zero(const unsigned char *bytes, size_t len)
+{
+    size_t zeros = 0;
+    while (zeros < len && bytes[zeros] == 0) {
+        zeros++;
+    }
+    return zeros == len;
+}
+
 void __wrap_free(void *at)
 {
-    const bool are_workers = run.taken[run.count - 1].kind == WORKERS && run.taken[run.count - 1].is_live;
+    const bool are_workers = find_taken(at)->kind == WORKERS;
     const size_t len = give_back(at, are_workers ? WORKERS : BYTES);
     if (are_workers) {
         look_at_moves();
         model.call = NULL;
     }
-    for (size_t i = 0; !are_workers && i < len; i++) {
-        must(((const unsigned char *)at)[i] == 0, "bytes are cleared before they are freed");
-    }
+    must(are_workers || is_zero(at, len), "bytes are cleared before they are freed");
     __real_free(at);
 }
 
@@ -482,7 +356,8 @@ static void write_lane(uint64_t step, uint32_t lane)
 {
     const uint64_t worker = worker_of(lane);
     go_on();
-    make(Writes, can_Writes(step, worker, lane + 1) && model.owner[worker] == current);
+    must(model.owner[worker] == current, "Writes");
+    make_Writes(step, worker, lane + 1);
     if (has_places()) {
         see_write(current, lane);
     }
@@ -607,7 +482,9 @@ static int report_progress(void *arg, uint64_t done, uint64_t all)
     if (fails(PROVED_ARGON2_STOPPED)) {
         return -1;
     }
-    run.is_forked = run.is_forked || (is_team && choose(2) == 1);
+    if (is_team && happens_once(&run.is_forked)) {
+        fork_here();
+    }
     return 0;
 }
 
@@ -632,9 +509,7 @@ static uint32_t make_call(uint8_t *tag)
         code = proved_driver_compute(&call, hash, call.bytes);
     }
     code = proved_driver_end_call(&call, code);
-    for (size_t i = 0; i < sizeof call; i++) {
-        must(((const unsigned char *)&call)[i] == 0, "the call is cleared");
-    }
+    must(is_zero((const unsigned char *)&call, sizeof call), "the call is cleared");
     return code;
 }
 
@@ -647,31 +522,22 @@ static void look_at_end(uint32_t code, const uint8_t *tag)
         "each slice is reported");
     const uint8_t otherwise = run.is_finished && !asked.is_verdict ? 0 : 9;
     must(tag[0] == (is_written ? 3 : otherwise) && tag[TAG - 1] == tag[0], "a tag is written, or nothing");
-    must(!run.is_dirty, "the blocks are cleared");
-    must(errno == ERROR_BEFORE && run.is_caller_saved && !is_team && current == 0, "the caller's thread is as it was");
-    for (size_t i = 0; i < run.count; i++) {
-        must(!run.taken[i].is_live, "what was taken is freed");
-    }
+    must(!run.is_dirty && !is_team, "the blocks are cleared, and the team has ended");
 }
 
-static uint64_t run_all(void)
+static void run_call(void)
 {
-    uint64_t runs = 0;
-    do {
-        uint8_t tag[TAG] = {9, 9, 9, 9};
-        run = (struct run){0};
-        errno = ERROR_BEFORE;
-        const uint32_t code = make_call(tag);
-        look_at_end(code, tag);
-        runs++;
-    } while (has_another_run());
-    return runs;
+    uint8_t tag[TAG] = {9, 9, 9, 9};
+    run = (struct run){0};
+    const uint32_t code = make_call(tag);
+    look_at_end(code, tag);
 }
 
 /* A kind of call, a bit each: large, over the caller's memory, a verdict in place of a hash, with progress, and by
  * threads in long parts. */
-static uint64_t run_kind(unsigned kind, uint32_t switches)
+static uint64_t explore_kind(unsigned kind, uint32_t switches)
 {
+    char name[100];
     asked.is_large = kind & 1;
     asked.is_callers = kind >> 1 & 1;
     asked.is_verdict = kind >> 2 & 1;
@@ -680,28 +546,24 @@ static uint64_t run_kind(unsigned kind, uint32_t switches)
     if (asked.is_long && (!asked.is_large || asked.lanes == 1 || asked.threads == 1)) {
         return 0;
     }
-    asked.switches = switches > 1 && (asked.is_callers || asked.is_verdict) ? 1 : switches;
     asked.segment = asked.is_long ? LONG : asked.is_large ? (KIB + asked.lanes - 1) / asked.lanes : 2;
     job = (proved_argon2_job){{1}, PROVED_ARGON2_ID, 0x13, asked.lanes, asked.segment, asked.passes, TAG};
-    return run_all();
+    snprintf(name, sizeof name, "a call%s%s%s%s%s", asked.is_large ? " large" : "",
+        asked.is_callers ? " caller's memory" : "", asked.is_verdict ? " verdict" : "",
+        asked.has_progress ? " progress" : "", asked.is_long ? " long" : "");
+    return explore(name, switches > 1 && (asked.is_callers || asked.is_verdict) ? 1 : switches, run_call);
 }
 
-int main(int count, char **words)
+uint64_t explore_all(const uint32_t *numbers)
 {
     uint64_t runs = 0;
-    if (count != 5) {
-        return 2;
-    }
-    asked.lanes = (uint32_t)atoi(words[1]);
-    asked.threads = (uint32_t)atoi(words[2]);
-    asked.passes = (uint32_t)atoi(words[3]);
+    asked.lanes = numbers[0];
+    asked.threads = numbers[1];
+    asked.passes = numbers[2];
     for (unsigned kind = 0; kind < KINDS; kind++) {
-        runs += run_kind(kind, (uint32_t)atoi(words[4]));
+        runs += explore_kind(kind, numbers[3]);
     }
-    printf("%llu runs\n", (unsigned long long)runs);
-    for (enum move move = 0; move < ALL_MOVES; move++) {
-        printf("Team %s %llu\n", move_names[move], (unsigned long long)made[move]);
-    }
+    print_moves("Team");
     print_moves_of_threads();
-    return 0;
+    return runs;
 }

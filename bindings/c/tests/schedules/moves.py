@@ -1,6 +1,6 @@
 """Writes the moves of a model (Team.antt or Threads.antt of crates/argon2_c/specs) in C, for explore_schedules.c and
-places.c: for each move a function `can_MOVE`, which returns whether the model allows it, and for Threads.antt also a
-function `after_MOVE`, which changes the places and wakes.
+places.c: for each move a function `make_MOVE`, which the model must allow. For Threads.antt it also changes the places
+and wakes. `print_moves` prints how often each move was made over all runs.
 
 A fill of a segment is there what the exploration sees of it: the proved call was made in this step for this lane. Which
 blocks a call is passed is checked elsewhere in explore_schedules.c. So a memory is a number here: 0 is the present one,
@@ -109,9 +109,16 @@ def cases(name, text):
     return [(move, parameters.split(), body) for move, parameters, body in found]
 
 
-def function(kind, name, numbers, body):
-    takes = ', '.join(f'uint64_t {number}' for number in numbers) or 'void'
-    return f'static inline {kind} {name}({takes})\n{{\n    {body};\n}}\n'
+MOVE = """static uint64_t made_{move};
+
+static inline void make_{move}({numbers})
+{{
+    must({guard}, "{move}");
+    made_{move}++;
+    {change};
+}}
+"""
+PRINT = '    printf("%s {move} %llu\\n", model, (unsigned long long)made_{move});'
 
 
 def change(body, known, numbers):
@@ -128,10 +135,12 @@ def change(body, known, numbers):
 def moves(text):
     """Returns the functions in C."""
     text = re.sub(r'\n {4,}', ' ', text)  # (a line that is indented further continues the one before)
-    known, functions = definitions(text), ['#pragma GCC diagnostic ignored "-Wunused-parameter"']
+    known = definitions(text)
+    changes = {move: change(body, known, numbers) for move, numbers, body in cases('after', text)}
+    functions, prints = ['#pragma GCC diagnostic ignored "-Wunused-parameter"'], []
     for move, numbers, body in cases('Can', text):
-        guard = Reader(body, known, {name: name for name in numbers}).implied()
-        functions.append(function('bool', f'can_{move}', numbers, f'return {guard}'))
-    for move, numbers, body in cases('after', text) if 'goes' in known else ():
-        functions.append(function('void', f'after_{move}', numbers, change(body, known, numbers)))
-    return '\n'.join(functions)
+        functions.append(MOVE.format(
+            move=move, numbers=', '.join(f'uint64_t {number}' for number in numbers) or 'void',
+            guard=Reader(body, known, {name: name for name in numbers}).implied(), change=changes.get(move, '')))
+        prints.append(PRINT.format(move=move))
+    return '\n'.join([*functions, 'static void print_moves(const char *model)\n{', *prints, '}\n'])

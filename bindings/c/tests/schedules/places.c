@@ -1,5 +1,5 @@
-/* The state of Threads.antt, which follows what the driver does. moves.py writes, from that file, what allows each move
- * (can_..) and what it changes (..._after). A move that no other thread can notice is made before the thread's next. */
+/* The state of Threads.antt, which follows what the driver does. moves.py writes each move from that file. A move that
+ * no other thread can notice is made before the thread's next. */
 #include "places.h"
 #include <stdio.h>
 
@@ -7,18 +7,6 @@ enum name { Waking, Taking, Working, Telling, Waiting, Woken, Counting, Left, En
 
 /* A place with its numbers. */
 #define NUMBER(name, first, second) (((uint64_t)(name) << 32) + ((uint64_t)(first) << 16) + (uint64_t)(second))
-
-/* clang-format off */
-#define MOVES(X) \
-    X(Wakes) X(Begins) X(Claims) X(Leaves) X(Writes) X(Finishes) X(Tells) X(Waits) X(Awakes) X(Enters) X(Exits) \
-    X(Counts) X(Advances) X(Stops) X(Dismisses) X(Returns)
-/* clang-format on */
-#define VALUE(move) Makes##move,
-#define TEXT(move) #move,
-
-enum move { MOVES(VALUE) ALL_MOVES };
-static const char *const move_names[] = {MOVES(TEXT)};
-static uint64_t made[ALL_MOVES]; /* over all runs */
 
 static struct {
     const struct call *call;
@@ -45,14 +33,6 @@ static void waits_for(uint64_t thread, uint64_t place)
 }
 
 #include "threads_moves.h" /* (moves.py) */
-
-/* Makes a move with these numbers: MAKE(Claims, thread, part, taken). */
-#define MAKE(move, ...) \
-    do { \
-        must(can_##move(__VA_ARGS__), #move); \
-        after_##move(__VA_ARGS__); \
-        made[Makes##move]++; \
-    } while (0)
 
 static enum name name_of(uint32_t thread)
 {
@@ -90,7 +70,7 @@ void add_members(uint32_t members)
 static void leave(uint32_t thread)
 {
     if (name_of(thread) == Taking) {
-        MAKE(Leaves, thread, first_of(thread), second_of(thread));
+        make_Leaves(thread, first_of(thread), second_of(thread));
     }
 }
 
@@ -99,11 +79,11 @@ void see_wake(uint32_t thread, uint32_t woken)
     if (thread != 0) {
         leave(thread);
         must(woken == 0 && name_of(thread) == Telling, "Tells");
-        MAKE(Tells, thread, first_of(thread) - 1);
+        make_Tells(thread, first_of(thread) - 1);
     } else if (model.is_over) {
-        MAKE(Dismisses, woken);
+        make_Dismisses(woken);
     } else {
-        MAKE(Wakes, woken);
+        make_Wakes(woken);
     }
 }
 
@@ -111,16 +91,16 @@ void see_wait(uint32_t thread)
 {
     leave(thread);
     if (thread != 0 && name_of(thread) != Waiting) {
-        MAKE(Waits, thread);
+        make_Waits(thread);
     }
 }
 
 void see_awake(uint32_t thread)
 {
     if (thread == 0) {
-        MAKE(Counts, first_of(0));
+        make_Counts(first_of(0));
     } else {
-        MAKE(Awakes, thread);
+        make_Awakes(thread);
     }
 }
 
@@ -129,12 +109,12 @@ static void see_access_to_end(uint32_t thread)
 {
     leave(thread);
     if (thread == 0) {
-        MAKE(Stops);
+        make_Stops();
         model.is_over = true;
     } else if (model.is_over) {
-        MAKE(Exits, thread);
+        make_Exits(thread);
     } else {
-        MAKE(Enters, thread);
+        make_Enters(thread);
         model.entered[thread]++;
     }
 }
@@ -143,19 +123,19 @@ static void see_access_to_end(uint32_t thread)
 static void see_access_to_part(uint32_t thread, uint64_t part)
 {
     if (name_of(thread) == Waking) {
-        MAKE(Begins);
+        make_Begins();
     }
     const worker *const worker = &model.call->workers[part];
     const uint64_t step = thread == 0 ? model.step : model.entered[thread] - 1, taken = second_of(thread);
     must(worker->state == model.state[part], "Claims"); /* (a claim is one access, which changes the state) */
     if (name_of(thread) == Working) {
-        MAKE(Finishes, thread, part, taken, worker->code);
+        make_Finishes(thread, part, taken, worker->code);
         model.state[part] = 2 * step + 2;
     } else if (worker->state == 2 * step) {
-        MAKE(Claims, thread, part, taken);
+        make_Claims(thread, part, taken);
         model.state[part] = 2 * step + 1;
     } else {
-        MAKE(Leaves, thread, part, taken);
+        make_Leaves(thread, part, taken);
     }
 }
 
@@ -173,24 +153,22 @@ void see_access(uint32_t thread, const void *at)
 
 void see_write(uint32_t thread, uint32_t lane)
 {
-    MAKE(Writes, thread, first_of(thread), second_of(thread), lane + 1);
+    make_Writes(thread, first_of(thread), second_of(thread), lane + 1);
 }
 
 void see_advance(void)
 {
     leave(0);
-    MAKE(Advances);
+    make_Advances();
     model.step++;
 }
 
 void see_return(void)
 {
-    MAKE(Returns);
+    make_Returns();
 }
 
 void print_moves_of_threads(void)
 {
-    for (enum move move = 0; move < ALL_MOVES; move++) {
-        printf("Threads %s %llu\n", move_names[move], (unsigned long long)made[move]);
-    }
+    print_moves("Threads");
 }

@@ -4,8 +4,7 @@
 #define PLACES_H
 
 #include "driver.h"
-
-enum { MOST_THREADS = 4 };
+#include "explore.h"
 
 /* A call begins in the caller's thread alone, in long parts or not. `written` has, for each lane, one more than the
  * step that wrote it last. */
@@ -33,8 +32,5 @@ void see_return(void);
 
 /* Prints how often each move was made. */
 void print_moves_of_threads(void);
-
-/* Ends the program, and names what is violated, unless this holds. */
-void must(bool holds, const char *what);
 
 #endif

@@ -1,41 +1,52 @@
-"""Runs a call of the driver for C (bindings/c/src/proved_argon2_driver.c) in every way in which it can go, for some
-lanes, threads and passes, and counts the runs. Each request and each thread may be denied, each proved call may fail,
-and the callback may stop or fork. Another thread may run before each atomic access. explore_schedules.c states what
-must hold in each run, and checks each move of a thread against the proved models (Team.antt and Threads.antt in
-crates/argon2_c/specs). Then each fault of faults.txt is planted in the driver, and has to be found.
+"""Runs a call of the driver for C (bindings/c/src/proved_argon2_driver.c), and callers of kept buffers
+(proved_argon2_buffers.c), in every way in which they can go within some bounds, and counts the runs. Each request and
+each thread may be denied, each proved call may fail, and the callback may stop or fork. Another thread may run before
+each atomic access. explore_schedules.c and explore_buffers.c state what must hold in each run. The first also checks
+each move of a thread against the proved models (Team.antt and Threads.antt in crates/argon2_c/specs). Then each fault
+of faults.txt is planted, and has to be found.
 """
 
-import functools
-import itertools
 import re
 import subprocess
+from concurrent.futures import ThreadPoolExecutor
 from pathlib import Path
+from typing import NamedTuple
 
 import moves
 import pytest
 from running import TOP, ahead, rows
 
 HERE = Path(__file__).resolve().parent
-DRIVER = (TOP / 'bindings/c/src/proved_argon2_driver.c').read_text(encoding='utf-8')
 SPECS = TOP / 'crates/argon2_c/specs'
+SOURCES = {name: (TOP / f'bindings/c/src/proved_argon2_{name}.c').read_text(encoding='utf-8')
+           for name in ('driver', 'buffers')}
 MODELS = {name: (SPECS / f'{name}.antt').read_text(encoding='utf-8') for name in ('Team', 'Threads')}
+TEXTS = {**SOURCES, **MODELS}
 COMPILER = ('gcc', '-std=c11', '-O1', '-g', '-fno-sanitize-recover=all', '-Wall', '-Wextra', '-Werror',
-            '-I', TOP / 'bindings/c/include', '-I', TOP / 'bindings/c/src')
+            '-I', TOP / 'bindings/c/include', '-I', TOP / 'bindings/c/src', '-I', HERE)
 SANITIZED = '-fsanitize=address,undefined'
-# The driver calls accesses.c for each access of memory.
+# The source calls accesses.c for each access of memory.
 WATCHED = '-fsanitize=thread,undefined', '--param=tsan-instrument-func-entry-exit=0'
-WRAPPED = [f'-Wl,--wrap={name}' for name in ('calloc', 'free')]
-# Lanes, threads and passes. With four lanes, each of two threads fills two lanes at a time.
-CASES = [*itertools.product((1, 2, 3), (1, 2, 3), (1, 2)), (4, 2, 1)]
-# By threads and passes, how many switches of threads without need are allowed.
-SWITCHES = {(1, 1): 0, (1, 2): 0, (2, 1): 2, (2, 2): 2, (3, 1): 2, (3, 2): 1}
-# By lanes and threads, how many runs there are over all kinds of call, of one pass and of two.
-RUNS = {(1, 1): (128, 192), (1, 2): (128, 192), (1, 3): (128, 192),
-        (2, 1): (136, 200), (2, 2): (60617, 333500), (2, 3): (60617, 44676),
-        (3, 1): (176, 272), (3, 2): (73476, 408010), (3, 3): (774728, 257008), (4, 2): (82494,)}
-# By each fault's name: a piece of the driver, and what takes its place. @ separates the lines of a piece.
+# By source: the objects of the program that explores it. An object is compiled from that source, from the file that
+# follows a model, or from another file of this folder.
+OBJECTS = {'driver': ('driver', 'Team', 'Threads', 'explore', 'accesses'),
+           'buffers': ('buffers', 'explore_buffers', 'explore', 'accesses')}
+FOLLOWS = {'Team': 'explore_schedules', 'Threads': 'places'}
+# By the numbers that a program is called with: how many runs there are.
+RUNS = {
+    # Lanes, threads, passes, and switches of threads without need, over all kinds of call. With four lanes, each of two
+    # threads fills two lanes at a time.
+    'driver': {(1, 1, 1, 0): 128, (1, 1, 2, 0): 192, (1, 2, 1, 2): 128, (1, 2, 2, 2): 192, (1, 3, 1, 2): 128,
+               (1, 3, 2, 1): 192, (2, 1, 1, 0): 136, (2, 1, 2, 0): 200, (2, 2, 1, 2): 60617, (2, 2, 2, 2): 333500,
+               (2, 3, 1, 2): 60617, (2, 3, 2, 1): 44676, (3, 1, 1, 0): 176, (3, 1, 2, 0): 272, (3, 2, 1, 2): 73476,
+               (3, 2, 2, 2): 408010, (3, 3, 1, 2): 774728, (3, 3, 2, 1): 257008, (4, 2, 1, 2): 82494},
+    # Callers, calls of each, buffers, and switches without need.
+    'buffers': {(1, 2, 1, 0): 13, (2, 2, 1, 3): 6413, (2, 2, 2, 3): 47287, (3, 1, 1, 3): 17736, (3, 1, 2, 3): 143366,
+                (3, 2, 1, 2): 35974},
+}
+# By each fault's name: a piece of a source, and what takes its place. @ separates the lines of a piece.
 FAULTS = {name: [piece.replace('@', '\n') for piece in pieces] for name, *pieces in rows(HERE / 'faults.txt')}
-assert len(FAULTS) == 48
+assert len(FAULTS) == 61
 # By model and move, a piece of the model, and one with which the model allows the move less often.
 NARROWER = {
     ('Team', 'Wakes'): ('s.woken j ≤ s.step', 's.woken j < s.step'),
@@ -65,100 +76,115 @@ NARROWER = {
 }
 
 
+class Exploration(NamedTuple):
+    """What the program over a source is called with, until a run goes wrong. A piece of a text may be replaced."""
+    source: str
+    cases: tuple
+    text: str = ''
+    piece: str = ''
+    planted: str = ''
+
+
+def with_fault(piece, planted):
+    """Returns the exploration of a planted fault. The cases with the fewest runs come first."""
+    source = next((name for name, text in SOURCES.items() if piece in text), 'driver')
+    return Exploration(source, tuple(sorted(RUNS[source], key=RUNS[source].get)), source, piece, planted)
+
+
+SOUND = [pytest.param(Exploration(source, (case,)), id=f'{source}-{case}')
+         for source, runs in RUNS.items() for case in sorted(runs, key=runs.get, reverse=True)]
+FAULTY = [pytest.param(name, with_fault(*pieces), id=name) for name, pieces in FAULTS.items()]
+NARROWED = [pytest.param(move, Exploration('driver', ((2, 2, 1, 2),), model, *pieces), id=f'{model}-{move}')
+            for (model, move), pieces in NARROWER.items()]
+
+
+def compiled(name, text, folder):
+    """Compiles an object in a folder, with this text of its source or model. Returns its path."""
+    source, made, flags = HERE / f'{FOLLOWS.get(name, name)}.c', folder / f'{name}.o', (SANITIZED, '-I', folder)
+    if name in SOURCES:
+        source, flags = folder / f'{name}.c', WATCHED
+        source.write_text(text, encoding='utf-8')
+    elif name in MODELS:
+        (folder / f'{name.lower()}_moves.h').write_text(moves.moves(text), encoding='utf-8')
+    subprocess.run([*COMPILER, *flags, '-c', source, '-o', made], check=True)
+    return made
+
+
+def linked(source, objects, folder):
+    """Links the program that explores a source, and returns its path."""
+    wrapped = [f'-Wl,--wrap={name}' for name in ('calloc', 'free') if source == 'driver']
+    made, own = folder / f'explore_{source}', [objects[name] for name in OBJECTS[source]]
+    subprocess.run([*COMPILER, SANITIZED, *own, *wrapped, '-o', made], check=True)
+    return made
+
+
+def said_by(program, cases):
+    """Runs the cases up to the first that goes wrong. Returns the status of the last, and what is said of it."""
+    for case in cases:
+        done = subprocess.run([program, *map(str, case)], capture_output=True, text=True, check=False)
+        if done.returncode != 0:
+            break
+    return done.returncode, done.stdout.strip() or done.stderr.strip()[-2000:]
+
+
+@pytest.fixture(scope='module')
+def said(request, tmp_path_factory):
+    """Returns a function that waits for an exploration, and returns its status and what is said of it."""
+    sound, names = tmp_path_factory.mktemp('sound'), sorted({name for own in OBJECTS.values() for name in own})
+    with ThreadPoolExecutor() as pool:
+        objects = dict(zip(names, pool.map(lambda name: compiled(name, TEXTS.get(name), sound), names)))
+    programs = {source: linked(source, objects, sound) for source in SOURCES}
+
+    def explore(exploration):
+        source, cases, name, piece, planted = exploration
+        if not name:
+            return said_by(programs[source], cases)
+        folder = tmp_path_factory.mktemp('planted')
+        changed = compiled(name, TEXTS[name].replace(piece, planted), folder)
+        return said_by(linked(source, {**objects, name: changed}, folder), cases)
+    yield from ahead(request, 'exploration', explore)
+
+
+@pytest.mark.parametrize('exploration', SOUND)
+def test_nothing_goes_wrong(said, exploration):
+    status, text = said(exploration)
+    assert (status, text.splitlines()[-1]) == (0, f'{RUNS[exploration.source][exploration.cases[0]]} runs')
+
+
+def test_each_move_of_the_models_is_made(said):
+    made = [line.split() for line in said(Exploration('driver', ((2, 2, 1, 2),)))[1].splitlines()[:-1]]
+    assert [(model, move) for model, move, count in made if count != '0'] == list(NARROWER)
+
+
+@pytest.mark.parametrize(('name', 'exploration'), FAULTY)
+def test_each_fault_is_found(said, name, exploration):
+    assert sorted(text.count(exploration.piece) for text in SOURCES.values()) == [0, 1], 'it cannot be planted'
+    status, text = said(exploration)
+    assert status != 0, 'no run finds it'
+    violated, is_named, _ = name.partition(': ')
+    assert not is_named or text.startswith(f'violated: {violated};'), text
+
+
+@pytest.mark.parametrize(('move', 'exploration'), NARROWED)
+def test_a_narrower_model_is_noticed(said, move, exploration):
+    """The conditions of moves are read from the model. If one allows a move less often, some run breaks it."""
+    assert MODELS[exploration.text].count(exploration.piece) == 1, 'it cannot be narrowed'
+    _, text = said(exploration)
+    assert text.startswith(f'violated: {move};'), text
+
+
 def moves_of(model):
     """Returns the names of the moves of a model, by its definition."""
     data = re.search(r'^pub data Move .*\n((?: .*\n)+)', MODELS[model], re.MULTILINE)[1]
     return re.findall(r'^ +([A-Z]\w*) :', data, re.MULTILINE)
 
 
-def compiled(source, made, *flags):
-    subprocess.run([*COMPILER, *flags, '-c', source, '-o', made], check=True)
-    return made
-
-
-@pytest.fixture(scope='module')
-def program_over(tmp_path_factory):
-    """Returns a function that builds the program over a driver and models with some texts, and returns the program's
-    path."""
-    shared = [compiled(HERE / f'{name}.c', tmp_path_factory.mktemp('made') / f'{name}.o', SANITIZED)
-              for name in ('accesses', 'choices')]
-
-    @functools.cache
-    def watching(source, model, text):
-        folder = tmp_path_factory.mktemp('made')
-        (folder / f'{model.lower()}_moves.h').write_text(moves.moves(text), encoding='utf-8')
-        return compiled(HERE / f'{source}.c', folder / f'{source}.o', SANITIZED, '-I', folder)
-
-    def over(text, **changed):
-        models = {**MODELS, **changed}
-        made = tmp_path_factory.mktemp('made') / 'driver'
-        source = made.with_suffix('.c')
-        source.write_text(text, encoding='utf-8')
-        driver = compiled(source, made.with_suffix('.o'), *WATCHED)
-        watchers = [watching(source, model, models[model])
-                    for source, model in (('explore_schedules', 'Team'), ('places', 'Threads'))]
-        subprocess.run([*COMPILER, SANITIZED, *watchers, *shared, driver, *WRAPPED, '-o', made], check=True)
-        return made
-    return over
-
-
-def said_by(program, case):
-    """Returns the status of a case, and what is said of it."""
-    words = [str(number) for number in (*case, SWITCHES[case[1:]])]
-    done = subprocess.run([program, *words], capture_output=True, text=True, check=False)
-    return done.returncode, (done.stdout.strip() or done.stderr.strip()[-2000:])
-
-
-@pytest.fixture(scope='module')
-def came(request, program_over):
-    program = program_over(DRIVER)
-    yield from ahead(request, 'case', lambda case: said_by(program, case))
-
-
-@pytest.fixture(scope='module')
-def found(request, program_over):
-    def first_fault(name):
-        program = program_over(DRIVER.replace(*FAULTS[name]))
-        ran = (said_by(program, case) for case in sorted(CASES, key=lambda case: (case[2], sum(case))))
-        return next((said for status, said in ran if status != 0), None)
-    yield from ahead(request, 'name', first_fault)
-
-
-@pytest.mark.parametrize('case', CASES, ids=str)
-def test_nothing_goes_wrong(came, case):
-    status, said = came(case)
-    assert (status, said.splitlines()[0]) == (0, f'{RUNS[case[:2]][case[2] - 1]} runs')
-
-
-def test_each_move_of_the_models_is_made(came):
-    made = [line.split() for line in came((2, 2, 1))[1].splitlines()[1:]]
-    assert [(model, move) for model, move, count in made if count != '0'] == list(NARROWER)
-
-
 def test_the_driver_names_each_move_of_the_models():
-    named = re.findall(r'\bMoves: ([A-Z]\w+(?:, [A-Z]\w+)*)\. \*/', DRIVER)
+    named = re.findall(r'\bMoves: ([A-Z]\w+(?:, [A-Z]\w+)*)\. \*/', SOURCES['driver'])
     assert sorted(', '.join(named).split(', ')) == sorted({move for model in MODELS for move in moves_of(model)})
 
 
-@pytest.mark.parametrize('name', FAULTS)
-def test_each_fault_is_found(found, name):
-    assert DRIVER.count(FAULTS[name][0]) == 1, 'it cannot be planted'
-    said = found(name)
-    assert said, 'no run finds it'
-    violated, is_named, _ = name.partition(': ')
-    assert not is_named or said.startswith(f'violated: {violated};'), said
-
-
-@pytest.mark.parametrize(('model', 'move'), NARROWER)
-def test_a_narrower_model_is_noticed(program_over, model, move):
-    """The conditions of moves are read from the model. If one allows a move less often, some run breaks it."""
-    piece, narrower = NARROWER[model, move]
-    assert MODELS[model].count(piece) == 1, 'it cannot be narrowed'
-    _, said = said_by(program_over(DRIVER, **{model: MODELS[model].replace(piece, narrower)}), (2, 2, 1))
-    assert said.startswith(f'violated: {move};'), said
-
-
 @pytest.mark.parametrize('model', MODELS)
-def test_each_move_has_a_guard(model):
-    found = re.findall(r'bool can_(\w+)\(', moves.moves(MODELS[model]))
+def test_each_move_is_made_by_a_function(model):
+    found = re.findall(r'void make_(\w+)\(', moves.moves(MODELS[model]))
     assert found == moves_of(model) == [move for of, move in NARROWER if of == model]
