@@ -20,6 +20,17 @@ func kib(name string) (number uint64) {
 	return number
 }
 
+// settle waits until finalizers have freed what is unreachable, and returns memory to the system.
+func settle() {
+	for i := 0; i < 2; i++ {
+		done, last := make(chan bool), new([64]byte)
+		runtime.SetFinalizer(last, func(*[64]byte) { close(done) })
+		runtime.GC()
+		<-done
+	}
+	debug.FreeOSMemory()
+}
+
 // TestMemoryDoesNotGrow measures 10,200 calls, and Hashers that are forgotten with their buffers.
 func TestMemoryDoesNotGrow(t *testing.T) {
 	h, larger := must(NewHasher(small(), 2, 0)), small(func(s *Settings) { s.Memory = 128 })
@@ -37,10 +48,10 @@ func TestMemoryDoesNotGrow(t *testing.T) {
 		}
 	}
 	calls(4000) // until then, the memory of the race detector grows
-	debug.FreeOSMemory()
+	settle()
 	before := kib("VmRSS:")
 	calls(3400)
-	debug.FreeOSMemory()
+	settle()
 	if after := kib("VmRSS:"); after > before+8192 {
 		t.Errorf("%d KiB grew to %d", before, after)
 	}
