@@ -20,6 +20,5 @@ def filled(text, name, script, part):
     begin, end = found.span(1)
     rest = text[end:].removeprefix('\n').removeprefix('\n')
     part = part.rstrip('\n')
-    # (rt fmt has an empty line above `-- end`, and gofmt has one below a function)
-    is_apart = rest.startswith('-- end') or part.rpartition('\n')[2].startswith('func ')
-    return text[:begin] + part + ('\n\n' if is_apart else '\n') + rest
+    # (rt fmt has an empty line above `-- end`)
+    return text[:begin] + part + ('\n\n' if rest.startswith('-- end') else '\n') + rest

@@ -184,9 +184,9 @@ func TestNeedsRehashComparesEverySetting(t *testing.T) {
 }
 
 func TestLimitsAreTheDefaultOnesOrThoseOfTheSettings(t *testing.T) {
-	expected := Limits{2097152, 10, 16, 4194304}
-	if DefaultLimits() != expected || LimitsFor(OWASP2()) != expected {
-		t.Error(DefaultLimits(), LimitsFor(OWASP2()))
+	expected := DefaultLimits()
+	if found := LimitsFor(OWASP2()); found != expected {
+		t.Error(found)
 	}
 	s := Settings{Memory: expected.Memory + 1, Time: expected.Time + 1, Lanes: expected.Lanes + 1}
 	if found := LimitsFor(s); found != (Limits{s.Memory, s.Time, s.Lanes, uint64(s.Memory) * uint64(s.Time)}) {

@@ -226,7 +226,7 @@ func NeedsRehash(encoded string, settings Settings) (bool, error) {
 	return uint32(stored.salt_length) != settings.SaltLength, err
 }
 
-// DefaultLimits returns 2 GiB, 10 passes, 16 lanes, and the work of 4 GiB in one pass.
+// DefaultLimits returns the limits of the library, which docs/USE.md lists.
 func DefaultLimits() Limits {
 	limits := C.proved_argon2_default_limits()
 	return Limits{uint32(limits.mem_cost), uint32(limits.time_cost), uint32(limits.lanes), uint64(limits.work)}

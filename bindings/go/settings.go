@@ -19,7 +19,8 @@ const (
 )
 
 // Settings say how a hash is made. Begin with [OWASP2]. The recommended settings are Argon2id with one lane, a 16-byte
-// salt and a 32-byte hash. RFC 9106 recommends four lanes for RFC9106 and RFC9106LowMem: to follow it, set Lanes.
+// salt and a 32-byte hash; docs/USE.md lists their memory and passes. RFC 9106 recommends four lanes for RFC9106 and
+// RFC9106LowMem: to follow it, set Lanes.
 type Settings struct {
 	Variant    Variant
 	Version    uint32
@@ -33,30 +34,26 @@ type Settings struct {
 	Data       []byte // associated data, or nil
 }
 
-// presets, by .ci/pages/presets
-
-// OWASP1 is OWASP's first recommendation: 46 MiB, 1 pass.
+// OWASP1 is OWASP's first recommendation.
 func OWASP1() Settings { return preset(47104, 1) }
 
-// OWASP2 is OWASP's second recommendation: 19 MiB, 2 passes.
+// OWASP2 is OWASP's second recommendation.
 func OWASP2() Settings { return preset(19456, 2) }
 
-// OWASP3 is OWASP's third recommendation: 12 MiB, 3 passes.
+// OWASP3 is OWASP's third recommendation.
 func OWASP3() Settings { return preset(12288, 3) }
 
-// OWASP4 is OWASP's fourth recommendation: 9 MiB, 4 passes.
+// OWASP4 is OWASP's fourth recommendation.
 func OWASP4() Settings { return preset(9216, 4) }
 
-// OWASP5 is OWASP's fifth recommendation: 7 MiB, 5 passes.
+// OWASP5 is OWASP's fifth recommendation.
 func OWASP5() Settings { return preset(7168, 5) }
 
-// RFC9106 is RFC 9106's first recommendation (section 4): 2 GiB, 1 pass.
+// RFC9106 is RFC 9106's first recommendation (section 4).
 func RFC9106() Settings { return preset(2097152, 1) }
 
-// RFC9106LowMem is RFC 9106's recommendation for little memory (section 4): 64 MiB, 3 passes.
+// RFC9106LowMem is RFC 9106's recommendation for little memory (section 4).
 func RFC9106LowMem() Settings { return preset(65536, 3) }
-
-// end
 
 func preset(memory, time uint32) Settings {
 	return Settings{Variant: ID, Version: Version, Memory: memory, Time: time, Lanes: 1, SaltLength: 16, HashLength: 32}

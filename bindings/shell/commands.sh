@@ -15,7 +15,7 @@
 newline='
 '
 
-# OWASP's settings for passwords: 2 passes over 19 MiB in one lane, and a tag of 32 bytes.
+# OWASP's settings for passwords, as `help.txt` explains them.
 owasp_settings='argon2id 19 2 19456 1 32 seq'
 
 # The memory that `tune` measures first if none is named, in KiB: RFC 9106's second recommendation.
@@ -29,11 +29,9 @@ loads=/proc/loadavg
 
 # The builds that have programs, the oldest first, and the CPU flags, as Linux names them, that each needs beyond those
 # of the build before it.
-# builds, by .ci/pages/presets
 oldest_build=x86-64-v2
 flags_of_builds='x86-64-v2: cx16 lahf_lm popcnt pni sse4_1 sse4_2 ssse3
 x86-64-v3: abm avx avx2 bmi1 bmi2 f16c fma movbe'
-# end
 
 # Makes the program's C library request huge pages, unless the user has set GLIBC_TUNABLES.
 tunables=glibc.malloc.hugetlb=1

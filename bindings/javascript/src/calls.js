@@ -14,9 +14,7 @@ import { runByWorkers } from './pool.js';
 import { lanesOf } from './run.js';
 
 /** The maximum number of threads that verify a stored string, as in the library's other languages. */
-// most threads of a string, by .ci/pages/presets
 const MAX_THREADS_OF_STRING = 16;
-// end
 
 /** The size of proved_argon2_tuning: three pairs of settings, and the nanoseconds. */
 const NUMBERS_OF_TUNING = 4;

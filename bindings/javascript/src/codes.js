@@ -33,7 +33,6 @@ export function check(code) {
 
 /** The library's message for each number. */
 const messages = new Map([
-    // messages, by .ci/pages/presets
     [1, 'Output is too short'],
     [2, 'Output is too long'],
     [3, 'Password is too short'],
@@ -69,7 +68,6 @@ const messages = new Map([
     [130, 'The hash was stopped'],
     [131, 'The processor is too old'],
     [132, 'The memory is at an address that is not a multiple of 8'],
-    // end
 ]);
 
 const classes = Object.values(errors);

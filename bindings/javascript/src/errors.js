@@ -15,7 +15,6 @@ function define(name, code) {
 
 Object.defineProperty(Argon2Error.prototype, 'name', { value: 'Argon2Error' });
 
-// errors, by .ci/pages/presets
 export const OutputTooShort = define('OutputTooShort', 1);
 export const OutputTooLong = define('OutputTooLong', 2);
 export const PwdTooShort = define('PwdTooShort', 3);
@@ -37,7 +36,6 @@ export const IncorrectVersion = define('IncorrectVersion', 18);
 export const DecodingFail = define('DecodingFail', 19);
 export const OutOfMemory = define('OutOfMemory', 20);
 export const WorkerRefused = define('WorkerRefused', 21);
-// end
 export const TooCostly = define('TooCostly', 69);
 export const NoRandomBytes = define('NoRandomBytes', 129);
 

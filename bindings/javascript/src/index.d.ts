@@ -14,7 +14,7 @@ export type Version = 0x10 | 0x13;
 /** Bytes. They are copied when the call is made. */
 export type Bytes = ArrayBuffer | ArrayBufferView;
 
-/** The settings of a hash. The defaults are OWASP's: Argon2id, version 0x13, 19 MiB, 2 passes, 1 lane. */
+/** The settings of a hash. The defaults are those of `presets.owasp2`. */
 export interface Settings {
     /** The variant. */
     type?: Type;
@@ -231,28 +231,26 @@ export type Preset = Readonly<Required<Settings>>;
 
 /**
  * Recommended settings, with one lane. OWASP calls its five equally strong; RFC 9106 (section 4) recommends its two
- * with four lanes.
+ * with four lanes. docs/USE.md lists their memory and passes.
  */
 export const presets: {
-    // presets, by .ci/pages/presets
-    /** OWASP's first recommendation: 46 MiB, 1 pass. */
+    /** OWASP's first recommendation. */
     readonly owasp1: Preset;
-    /** OWASP's second recommendation: 19 MiB, 2 passes. */
+    /** OWASP's second recommendation. */
     readonly owasp2: Preset;
-    /** OWASP's third recommendation: 12 MiB, 3 passes. */
+    /** OWASP's third recommendation. */
     readonly owasp3: Preset;
-    /** OWASP's fourth recommendation: 9 MiB, 4 passes. */
+    /** OWASP's fourth recommendation. */
     readonly owasp4: Preset;
-    /** OWASP's fifth recommendation: 7 MiB, 5 passes. */
+    /** OWASP's fifth recommendation. */
     readonly owasp5: Preset;
-    /** RFC 9106's first recommendation (section 4): 2 GiB, 1 pass. */
+    /** RFC 9106's first recommendation (section 4). */
     readonly rfc9106: Preset;
-    /** RFC 9106's recommendation for little memory (section 4): 64 MiB, 3 passes. */
+    /** RFC 9106's recommendation for little memory (section 4). */
     readonly rfc9106LowMem: Preset;
-    // end
 };
 
-/** The limits of `verify` without `limits`: 2 GiB, 10 passes, 16 lanes, and the work of 4 GiB in one pass. */
+/** The limits of `verify` without `limits`, which docs/USE.md lists. */
 export const defaultLimits: Readonly<Required<Limits>>;
 
 /** A call to Argon2 failed. */

@@ -22,7 +22,6 @@ const preset = (memoryCost, timeCost) => Object.freeze({ ...DEFAULTS, memoryCost
 
 /** Recommended settings. OWASP calls its five equal in strength. RFC 9106 recommends its own with four lanes. */
 export const presets = Object.freeze({
-    // presets, by .ci/pages/presets
     owasp1: preset(47104, 1),
     owasp2: preset(19456, 2),
     owasp3: preset(12288, 3),
@@ -30,7 +29,6 @@ export const presets = Object.freeze({
     owasp5: preset(7168, 5),
     rfc9106: preset(2097152, 1),
     rfc9106LowMem: preset(65536, 3),
-    // end
 });
 
 /** The default limits on the costs of a PHC string that is verified. */

@@ -77,57 +77,56 @@ impl ThreadMode {
     }
 }
 
-/// Presets have one lane. RFC 9106 recommends four for its two presets: set `lanes`.
+/// Presets have one lane. RFC 9106 recommends four for its two presets: set `lanes`. The page `docs/USE.md` lists the
+/// memory and the passes of each.
 impl<'a> Config<'a> {
-    // presets, by .ci/pages/presets
-    /// The defaults of the original C program: Argon2i, 4 MiB, 3 passes.
+    /// The defaults of the original C program, for Argon2i.
     #[must_use]
     pub fn original() -> Config<'a> {
         Config::preset(Variant::Argon2i, 4096, 3)
     }
 
-    /// OWASP's first recommendation: Argon2id, 46 MiB, 1 pass.
+    /// OWASP's first recommendation.
     #[must_use]
     pub fn owasp1() -> Config<'a> {
         Config::preset(Variant::Argon2id, 47104, 1)
     }
 
-    /// OWASP's second recommendation: Argon2id, 19 MiB, 2 passes.
+    /// OWASP's second recommendation.
     #[must_use]
     pub fn owasp2() -> Config<'a> {
         Config::preset(Variant::Argon2id, 19456, 2)
     }
 
-    /// OWASP's third recommendation: Argon2id, 12 MiB, 3 passes.
+    /// OWASP's third recommendation.
     #[must_use]
     pub fn owasp3() -> Config<'a> {
         Config::preset(Variant::Argon2id, 12288, 3)
     }
 
-    /// OWASP's fourth recommendation: Argon2id, 9 MiB, 4 passes.
+    /// OWASP's fourth recommendation.
     #[must_use]
     pub fn owasp4() -> Config<'a> {
         Config::preset(Variant::Argon2id, 9216, 4)
     }
 
-    /// OWASP's fifth recommendation: Argon2id, 7 MiB, 5 passes.
+    /// OWASP's fifth recommendation.
     #[must_use]
     pub fn owasp5() -> Config<'a> {
         Config::preset(Variant::Argon2id, 7168, 5)
     }
 
-    /// RFC 9106's first recommendation (section 4): Argon2id, 2 GiB, 1 pass.
+    /// RFC 9106's first recommendation (section 4).
     #[must_use]
     pub fn rfc9106() -> Config<'a> {
         Config::preset(Variant::Argon2id, 2097152, 1)
     }
 
-    /// RFC 9106's recommendation for little memory (section 4): Argon2id, 64 MiB, 3 passes.
+    /// RFC 9106's recommendation for little memory (section 4).
     #[must_use]
     pub fn rfc9106_low_mem() -> Config<'a> {
         Config::preset(Variant::Argon2id, 65536, 3)
     }
-    // end
 
     /// Whether the caller's thread computes all lanes.
     #[must_use]

@@ -54,8 +54,8 @@ impl Limits {
 }
 
 impl Default for Limits {
-    /// The limits of the library: 2 GiB, 10 passes, 16 lanes, and the work of 4 GiB in one pass. The recommendations of
-    /// RFC 9106, OWASP, libsodium and Django are within.
+    /// The limits of the library, which the page `docs/USE.md` lists. The recommendations of RFC 9106, OWASP, libsodium
+    /// and Django are within.
     fn default() -> Limits {
         ffi::default_limits()
     }

@@ -69,9 +69,9 @@ class Limits(namedtuple("Limits", ("memory_cost", "time_cost", "parallelism", "w
 
     `work` is the memory in KiB times the passes. The time of a hash is proportional to it.
 
-    The defaults are the library's: 2 GiB, 10 passes, 16 lanes, and the work of 4 GiB in one pass. The recommendations
-    of RFC 9106, OWASP, libsodium and Django are within these limits. The fields cannot be changed; `_replace` makes new
-    `Limits`, as for each named tuple.
+    The defaults are the library's, which docs/USE.md lists. The recommendations of RFC 9106, OWASP, libsodium and
+    Django are within these limits. The fields cannot be changed; `_replace` makes new `Limits`, as for each named
+    tuple.
     """
 
     __slots__ = ()

@@ -20,13 +20,13 @@ def _profile(time_cost: int, memory_cost: int, parallelism: int, salt_len: int =
     return Parameters(Type.ID, ARGON2_VERSION, salt_len, hash_len, time_cost, memory_cost, parallelism)
 
 
-#: The first recommendation of RFC 9106: 1 pass over 2 GiB in 4 lanes.
+#: The first recommendation of RFC 9106.
 RFC_9106_HIGH_MEMORY = _profile(time_cost=1, memory_cost=2097152, parallelism=4)
 
-#: The recommendation of RFC 9106 for machines with little memory: 3 passes over 64 MiB in 4 lanes.
+#: The recommendation of RFC 9106 for machines with little memory.
 RFC_9106_LOW_MEMORY = _profile(time_cost=3, memory_cost=65536, parallelism=4)
 
-#: The recommendation of OWASP: 2 passes over 19 MiB in one lane.
+#: The recommendation of OWASP.
 OWASP = _profile(time_cost=2, memory_cost=19456, parallelism=1)
 
 #: The default of argon2-cffi before its version 21.2.

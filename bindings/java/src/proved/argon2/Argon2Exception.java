@@ -7,7 +7,6 @@ import java.util.Arrays;
 public final class Argon2Exception extends RuntimeException {
     /** Why a call failed. */
     public enum Reason {
-        // errors, by .ci/pages/presets
         /** Output is too short. */ OUTPUT_TOO_SHORT(1),
         /** Output is too long. */ OUTPUT_TOO_LONG(2),
         /** Password is too short. */ PWD_TOO_SHORT(3),
@@ -29,7 +28,6 @@ public final class Argon2Exception extends RuntimeException {
         /** Decoding failed. */ DECODING_FAIL(19),
         /** Out of memory. */ OUT_OF_MEMORY(20),
         /** A worker was refused. */ WORKER_REFUSED(21),
-        // end
         /** The encoded hash is above the limits. */
         TOO_COSTLY(69),
         /** The caller of {@link HashQueue#run} was interrupted, or the queue was closed. */

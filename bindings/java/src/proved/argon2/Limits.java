@@ -9,7 +9,7 @@ package proved.argon2;
  * @param work the memory in KiB times the passes, which the time is proportional to
  */
 public record Limits(int memory, int passes, int lanes, long work) {
-    /** The default limits: 2 GiB, 10 passes, 16 lanes, and the work of 4 GiB in one pass. */
+    /** The library's default limits, which docs/USE.md lists. */
     public static final Limits DEFAULT = new Limits(2097152, 10, 16, 4194304L);
 
     /** No limits, for hashes that nobody else can write. */

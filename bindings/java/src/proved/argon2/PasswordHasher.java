@@ -37,7 +37,7 @@ public class PasswordHasher {
     private final byte[] pepper;
     private final byte[] associatedData;
 
-    /** A hasher with OWASP's settings: Argon2id, 19 MiB and 2 passes. */
+    /** A hasher with {@link Settings#owasp2}. */
     public PasswordHasher() {
         this(Settings.owasp2());
     }

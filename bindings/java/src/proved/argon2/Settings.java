@@ -2,7 +2,8 @@ package proved.argon2;
 
 /**
  * The settings of a hash. Settings that no hash can have are rejected with an {@link Argon2Exception}. The recommended
- * settings below have one lane. RFC 9106 recommends four lanes for its two settings: see {@link #withLanes}.
+ * settings below have one lane; docs/USE.md lists their memory and passes. RFC 9106 recommends four lanes for its two
+ * settings: see {@link #withLanes}.
  *
  * @param variant the variant
  * @param version the version
@@ -34,22 +35,20 @@ public record Settings(
         }
     }
 
-    // presets, by .ci/pages/presets
-    /** {@return OWASP's first recommendation: 46 MiB, 1 pass} */
+    /** {@return OWASP's first recommendation} */
     public static Settings owasp1() { return preset(47104, 1); }
-    /** {@return OWASP's second recommendation: 19 MiB, 2 passes} */
+    /** {@return OWASP's second recommendation} */
     public static Settings owasp2() { return preset(19456, 2); }
-    /** {@return OWASP's third recommendation: 12 MiB, 3 passes} */
+    /** {@return OWASP's third recommendation} */
     public static Settings owasp3() { return preset(12288, 3); }
-    /** {@return OWASP's fourth recommendation: 9 MiB, 4 passes} */
+    /** {@return OWASP's fourth recommendation} */
     public static Settings owasp4() { return preset(9216, 4); }
-    /** {@return OWASP's fifth recommendation: 7 MiB, 5 passes} */
+    /** {@return OWASP's fifth recommendation} */
     public static Settings owasp5() { return preset(7168, 5); }
-    /** {@return RFC 9106's first recommendation (section 4): 2 GiB, 1 pass} */
+    /** {@return RFC 9106's first recommendation (section 4)} */
     public static Settings rfc9106() { return preset(2097152, 1); }
-    /** {@return RFC 9106's recommendation for little memory (section 4): 64 MiB, 3 passes} */
+    /** {@return RFC 9106's recommendation for little memory (section 4)} */
     public static Settings rfc9106LowMem() { return preset(65536, 3); }
-    // end
 
     /**
      * {@return the same settings with other memory}
