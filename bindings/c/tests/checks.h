@@ -57,6 +57,24 @@ static inline void fill_bytes(uint8_t *bytes, size_t len, uint8_t seed)
     }
 }
 
+/* Returns what a step of a job returns for a lane, or for two lanes from it on. Step 0 begins a lane, and step n + 1
+ * fills slice number n. */
+static inline uint32_t take_step(
+    const proved_argon2_job *job, proved_argon2_block *blocks, uint32_t n, uint32_t lane, uint32_t lanes)
+{
+    const size_t length = job->segment_length, whole = job->lanes * length;
+    const uint32_t slice = (n + 3) % 4;
+    const proved_argon2_block *others[3];
+    if (n == 0) {
+        return proved_argon2_job_begin(job, lane, blocks + lane * length, length);
+    }
+    for (size_t i = 0; i < 3; i++) {
+        others[i] = blocks + (i < slice ? i : i + 1) * whole;
+    }
+    return proved_argon2_job_fill(job, (n - 1) / 4, slice, lane, others[0], whole, others[1], whole, others[2], whole,
+        blocks + slice * whole + lane * length, lanes * length);
+}
+
 /* Returns whether bytes are those of a text of hexadecimal digits. */
 static inline bool is_hex(const uint8_t *bytes, size_t len, const char *expected)
 {

@@ -239,16 +239,8 @@ static int check_large(void)
 /* KiB: a quarter of what the system can give, or a gibibyte. */
 static uint32_t memory_to_take(void)
 {
-    FILE *const about = fopen("/proc/meminfo", "r");
-    unsigned long kib = 0;
-    char line[128];
-    while (about != NULL && kib == 0 && fgets(line, sizeof line, about) != NULL) {
-        (void)sscanf(line, "MemAvailable: %lu kB", &kib);
-    }
-    if (about != NULL) {
-        fclose(about);
-    }
-    return kib / 4 < 1 << 20 ? (uint32_t)(kib / 4) : 1 << 20;
+    const size_t quarter = kib_in("/proc/meminfo", "MemAvailable:") / 4;
+    return quarter < 1 << 20 ? (uint32_t)quarter : 1 << 20;
 }
 
 int main(int argc, char **argv)

@@ -15,23 +15,6 @@ static const char stored[] = "$argon2i$v=19$m=256,t=2,p=2$c29tZXNhbHQ$T/XOJ2mh1/
 enum { MOST = 256 };
 static proved_argon2_block blocks[MOST];
 
-/* Returns what a step returns for a lane, or for two lanes from it on; step 0 begins a lane, and step n + 1 fills slice
- * number n. */
-static uint32_t take_step(const proved_argon2_job *job, uint32_t n, uint32_t lane, uint32_t lanes)
-{
-    const size_t length = job->segment_length, whole = job->lanes * length;
-    const uint32_t slice = (n + 3) % 4;
-    const proved_argon2_block *others[3];
-    if (n == 0) {
-        return proved_argon2_job_begin(job, lane, blocks + lane * length, length);
-    }
-    for (size_t i = 0; i < 3; i++) {
-        others[i] = blocks + (i < slice ? i : i + 1) * whole;
-    }
-    return proved_argon2_job_fill(job, (n - 1) / 4, slice, lane, others[0], whole, others[1], whole, others[2], whole,
-        blocks + slice * whole + lane * length, lanes * length);
-}
-
 enum order { RISING, FALLING, TWO_AT_A_TIME, ORDERS };
 
 /* All steps in blocks with arbitrary contents. */
@@ -43,7 +26,8 @@ static bool take_steps(const proved_argon2_job *job, enum order order)
         uint32_t lanes = 1;
         for (uint32_t i = 0; i < job->lanes; i += lanes) {
             lanes = order == TWO_AT_A_TIME && n > 0 && i + 1 < job->lanes ? 2 : 1;
-            good &= take_step(job, n, order == FALLING ? job->lanes - 1 - i : i, lanes) == PROVED_ARGON2_OK;
+            const uint32_t lane = order == FALLING ? job->lanes - 1 - i : i;
+            good &= take_step(job, blocks, n, lane, lanes) == PROVED_ARGON2_OK;
         }
     }
     return good;

@@ -63,7 +63,7 @@ static uint32_t takes_steps(uint32_t count)
     uint32_t code = does_job_make();
     for (uint32_t step = 0; step < count && code == PROVED_ARGON2_OK; step++) {
         spare.count = 0;
-        code = take_step(&job, blocks, step, &spare) ? PROVED_ARGON2_OK : PROVED_ARGON2_UNKNOWN_NUMBER;
+        code = keep_step(&job, blocks, step, &spare) ? PROVED_ARGON2_OK : PROVED_ARGON2_UNKNOWN_NUMBER;
     }
     return code;
 }

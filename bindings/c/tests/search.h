@@ -72,19 +72,13 @@ static inline void keep_chains(const proved_argon2_block *first, known *to)
 }
 
 /* Takes a step of a job and keeps some of the slice that it has written, with its last bytes. */
-static inline bool take_step(const proved_argon2_job *job, proved_argon2_block *blocks, uint32_t step, known *to)
+static inline bool keep_step(const proved_argon2_job *job, proved_argon2_block *blocks, uint32_t step, known *to)
 {
     const size_t length = job->segment_length, slice = job->lanes * length;
-    const uint32_t number = step == 0 ? 0 : (step - 1) % 4;
-    proved_argon2_block *const own = blocks + number * slice;
+    proved_argon2_block *const own = blocks + (step == 0 ? 0 : (step - 1) % 4) * slice;
     bool good = true;
     for (uint32_t lane = 0; lane < job->lanes; lane++) {
-        good &= (step == 0
-                        ? proved_argon2_job_begin(job, lane, own + lane * length, length)
-                        : proved_argon2_job_fill(job, (step - 1) / 4, number, lane, blocks + (number == 0 ? slice : 0),
-                            slice, blocks + (number <= 1 ? 2 * slice : slice), slice,
-                            blocks + (number <= 2 ? 3 * slice : 2 * slice), slice, own + lane * length, length))
-            == PROVED_ARGON2_OK;
+        good &= take_step(job, blocks, step, lane, 1) == PROVED_ARGON2_OK;
     }
     const enum kind kind = step == 0 ? OF_FIRST : OF_BLOCKS;
     keep(to, kind, own[step == 0 ? 0 : length - 1].words);
@@ -136,7 +130,7 @@ static inline bool know(const struct call *call, known *to)
     proved_argon2_job job;
     bool good = proved_argon2_job_make(INPUTS_OF(*call), &job) == PROVED_ARGON2_OK;
     for (uint32_t step = 0; good && step <= 4 * job.passes; step++) {
-        good = take_step(&job, blocks, step, to);
+        good = keep_step(&job, blocks, step, to);
     }
     const size_t slice = (size_t)job.lanes * job.segment_length;
     good = good && proved_argon2_job_finish(&job, blocks + 3 * slice, slice, to->tag, len) == PROVED_ARGON2_OK;

@@ -75,19 +75,25 @@ static size_t last_mapped_len;
 static bool no_wiping;
 static void (*look_at)(const void *block);
 
+/* The number of KiB behind a name in a file of the system, or 0 if there is none. */
+static inline size_t kib_in(const char *path, const char *name)
+{
+    FILE *const file = fopen(path, "r");
+    char line[256];
+    size_t kib = 0;
+    while (file != NULL && kib == 0 && fgets(line, sizeof line, file) != NULL) {
+        kib = strncmp(line, name, strlen(name)) == 0 ? strtoul(line + strlen(name), NULL, 10) : 0;
+    }
+    if (file != NULL) {
+        fclose(file);
+    }
+    return kib;
+}
+
 /* This process's resident bytes, as the system counts them page by page. */
 static inline size_t resident(void)
 {
-    FILE *const sums = fopen("/proc/self/smaps_rollup", "r");
-    char line[256];
-    unsigned long found = 0;
-    while (sums != NULL && found == 0 && fgets(line, sizeof line, sums) != NULL) {
-        sscanf(line, "Rss: %lu kB", &found);
-    }
-    if (sums != NULL) {
-        fclose(sums);
-    }
-    return (size_t)found * 1024;
+    return kib_in("/proc/self/smaps_rollup", "Rss:") * 1024;
 }
 
 /* Counts from 0 and refuses nothing. */

@@ -120,14 +120,7 @@ static void check_at_once(uint32_t threads)
 /* The most address space that this process has had, in KiB. */
 static size_t peak_address_space(void)
 {
-    char line[256];
-    size_t peak = 0;
-    FILE *const status = fopen("/proc/self/status", "r");
-    while (status != NULL && fgets(line, sizeof line, status) != NULL) {
-        sscanf(line, "VmPeak: %zu", &peak);
-    }
-    fclose(status);
-    return peak;
+    return kib_in("/proc/self/status", "VmPeak:");
 }
 
 /* A call's threads have small stacks, also if the system does not say how small they may be (under valgrind mmap
@@ -141,7 +134,8 @@ static void check_address_space(void)
     proved_argon2_options with = by(4);
     const size_t before = peak_address_space();
     check_code(hash_raw(&with, &call, tag), PROVED_ARGON2_OK, "a hash of 4 MiB by four threads");
-    check(peak_address_space() - before < MOST_KIB, "four threads take less than 256 MiB of address space");
+    check(
+        before > 0 && peak_address_space() - before < MOST_KIB, "four threads take less than 256 MiB of address space");
 }
 
 int main(int argc, char **argv)
