@@ -286,6 +286,30 @@ def test_verify_and_update_accepts_the_password_if_the_new_hash_cannot_be_comput
         assert PasswordHasher(**SMALL).verify_and_update(old, "password") == (True, None)
 
 
+class Denied:
+    """Stands in for the type of a parameter when memory runs out while `ctypes` converts an argument."""
+
+    @staticmethod
+    def from_param(_):
+        raise MemoryError
+
+
+@pytest.mark.parametrize("name, expected", [
+    ("encoded_len", HashingError), ("hash_encoded_with", HashingError), ("verify_encoded_with", VerificationError),
+    ("read", MemoryError), ("message", VerificationError)])
+def test_memory_that_is_denied_to_ctypes_has_run_out(monkeypatch, name, expected):
+    old, (types, result) = PasswordHasher(**OTHER).hash("password"), _library._CALLS[name]
+    monkeypatch.setitem(_library._CALLS, name, ([Denied, *types[1:]], result))
+    monkeypatch.setattr(_library, "_library", _library._load())
+    calls = {HashingError: lambda: HASHER.hash("password"), VerificationError: lambda: HASHER.verify(old, "Password"),
+             MemoryError: lambda: extract_parameters(old)}
+    with pytest.raises(expected, match="^Out of memory$") as raised:
+        calls[expected]()
+    assert raised.type is expected
+    if expected is HashingError:
+        assert HASHER.verify_and_update(old, "password") == (True, None)
+
+
 @pytest.mark.parametrize("error", [MemoryError, OverflowError])
 def test_a_hash_that_does_not_fit_into_memory_raises_hashing_error(error):
     with mock.patch("ctypes.create_string_buffer", side_effect=error):

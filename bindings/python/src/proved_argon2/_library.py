@@ -90,9 +90,9 @@ class Options(ctypes.Structure):
 class Refused(Exception):
     """The library returned an error's number. NOT_ASCII, for a byte above 127, counts as an invalid encoded hash."""
 
-    def __init__(self, number: int) -> None:
+    def __init__(self, number: int, said: "Optional[str]" = None) -> None:
         self.number = DECODING_FAIL if number == NOT_ASCII else number
-        super().__init__(message(self.number))
+        super().__init__(said or message(self.number))
 
 
 def _files() -> "Iterator[str]":
@@ -132,6 +132,21 @@ _CALLS: "Dict[str, Tuple[List[Any], Any]]" = {
 }
 
 
+def _with_memory_errors(call: "Callable[..., Any]") -> "Callable[..., Any]":
+    """Return a call that raises `Refused` if memory runs out while `ctypes` converts its arguments.
+
+    `ctypes` raises `ArgumentError` then, and for no other reason, since all arguments have the types of `_CALLS`.
+    """
+
+    def made(*arguments: "Any") -> "Any":
+        try:
+            return call(*arguments)
+        except ctypes.ArgumentError:  # The library's message would need a call, which might fail in the same way.
+            raise Refused(OUT_OF_MEMORY, "Out of memory") from None
+
+    return made
+
+
 def _load() -> ctypes.CDLL:
     """Load the library, and declare the types of its calls."""
     reasons = []
@@ -141,6 +156,7 @@ def _load() -> ctypes.CDLL:
             for name, types in _CALLS.items():
                 call = getattr(library, f"proved_argon2_{name}")
                 call.argtypes, call.restype = types
+                setattr(library, f"proved_argon2_{name}", _with_memory_errors(call))
         except (OSError, AttributeError) as error:
             reasons.append(str(error))
             continue
