@@ -32,6 +32,14 @@ def test_files_are_laid_out(language, needs):
     assert came.returncode == 0, came.stdout
 
 
+def test_each_file_of_tests_runs_in_ci():
+    """`.ci/tests.txt` lists what CTest runs in CI. Tests of C and Python run the others."""
+    run_by_others = 'bindings/python/tests/', 'bindings/c/tests/test_library.py'
+    tests = [name for name in files('**/test_*.py') if not name.startswith(run_by_others)]
+    listed = re.findall(r'^\S+', read('.ci/tests.txt'), re.M)
+    assert tests and not {*tests}.difference(listed)
+
+
 def test_each_item_for_javascript_has_a_comment():
     items = ITEM_OF_TYPES.findall(read('bindings/javascript/src/index.d.ts'))
     assert len(items) > 50 and not [item for comment, item in items if not comment]
