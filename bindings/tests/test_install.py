@@ -1,4 +1,4 @@
-"""./install writes these files, and C programs build and run with them."""
+"""./install and `cmake --install` write the listed files, and C programs build and run with them."""
 import os
 import re
 import shutil
@@ -14,22 +14,13 @@ HEADERS = sorted((TOP / "bindings/c/include").glob("*.h"))
 CALLS = sorted(re.findall(
     r"^(?:void |uint32_t |uint64_t |const char \*|proved_argon2_(?:settings|limits) )(proved_argon2_[a-z0-9_]*)\(",
     "".join(header.read_text() for header in HEADERS), re.M))
-INSTALLED = {
-    "bin": "proved-argon2",
-    "lib": f"libproved_argon2.a {LIBRARY} {LIBRARY}.{VERSION.split('.')[0]} {LIBRARY}.{VERSION}",
-    "lib/cmake/proved-argon2": "proved-argon2-config-version.cmake proved-argon2-config.cmake",
-    "lib/pkgconfig": "proved_argon2.pc",
-    "lib/proved-libargon2": "bin/argon2 include/argon2.h libargon2.a libargon2.so libargon2.so.1",
-    "lib/proved-libargon2/pkgconfig": "libargon2.pc",
-    "libexec/proved-argon2": f"commands.sh help.txt {MACHINE}/argon2_tool",
-    "share/bash-completion/completions": "proved-argon2",
-    "share/doc/proved-argon2": "LICENSE NOTICE proved-argon2.spdx README.md SECURITY.md",
-    "share/doc/proved-argon2/docs": "C.md CLAIMS.md LIBARGON2.md SHELL.md USE.md",
-    "share/man": "man1/proved-argon2.1 man3/proved_argon2.3",
-    "share/proved-argon2": "installed uninstall",
-}
-EXPECTED = {*(f"{folder}/{name}" for folder, names in INSTALLED.items() for name in names.split()),
-            *(f"include/{header.name}" for header in HEADERS), *(f"share/man/man3/{call}.3" for call in CALLS)}
+MARKS = {"PREFIX/": "", "LIBDIR": "lib", "VERSION": VERSION, "MAJOR": VERSION.split(".")[0], "MACHINE": MACHINE}
+ROWS = re.sub("|".join(MARKS), lambda found: MARKS[found[0]], (TOP / "bindings/packages/files.txt").read_text())
+PAGES = "LICENSE NOTICE proved-argon2.spdx README.md SECURITY.md docs/C.md docs/CLAIMS.md docs/LIBARGON2.md " \
+        "docs/SHELL.md docs/USE.md"
+EXPECTED = {*re.findall("^(?:both|[.]/install) .* (.*)", ROWS, re.M), "share/proved-argon2/installed",
+            *(f"share/doc/proved-argon2/{page}" for page in PAGES.split()),
+            *(f"share/man/man3/{call}.3" for call in (*CALLS, "proved_argon2"))}
 
 
 def files_in(folder):
@@ -48,6 +39,19 @@ def examples(installed, tmp_path_factory):
 
 def test_install_writes_exactly_the_listed_files(installed):
     assert len(CALLS) > 40 and files_in(installed) == EXPECTED
+
+
+@needs("cmake")
+def test_cmake_installs_the_same_files_for_c(built, installed, tmp_path):
+    """Three of them have another form, and the replacement of libargon2 is not among them."""
+    of_c = {name for name in EXPECTED if re.match("(include|lib)/(?!proved-libargon2/)", name)}
+    run("cmake", "-S", "bindings/c", "-B", tmp_path / "made", f"-DPROVED_ARGON2_FROM={built}", "-DBUILD_TESTING=OFF",
+        "-DCMAKE_INSTALL_LIBDIR=lib", f"-DCMAKE_C_COMPILER={CC}")
+    run("cmake", "--build", tmp_path / "made")
+    run("cmake", "--install", tmp_path / "made", "--prefix", tmp_path / "prefix")
+    assert files_in(tmp_path / "prefix") == of_c and "lib/cmake/proved-argon2/proved-argon2-config.cmake" in of_c
+    for name in (name for name in of_c if not name.endswith((".cmake", ".pc"))):
+        assert (tmp_path / "prefix" / name).read_bytes() == (installed / name).read_bytes(), name
 
 
 def test_the_example_has_the_first_lines_of_the_page():
