@@ -1,5 +1,5 @@
 # shellcheck shell=bash
-# Fetches packages of Debian from the archive that the machine itself uses, by separate lists.
+# Fetches packages of Debian, and small systems, from the archive that the machine itself uses, by separate lists.
 
 # apt-get by the lists of a folder alone: `apt_in FOLDER WORD..`.
 apt_in() {
@@ -11,6 +11,16 @@ apt_in() {
 mirror_of() {
     cat /etc/apt/sources.list /etc/apt/sources.list.d/*.{list,sources} 2>/dev/null | grep -E '^(URIs:|deb )' \
         | sed -nE "s|.* ([a-z+]+://[^ ]+/)debian/?( .*)?\$|\1$1|p;T;q"
+}
+
+# Makes a small system of a release of Debian, or of Ubuntu's noble, in a folder: `make_system RELEASE FOLDER OPTION..`,
+# with options of mmdebstrap such as --include=PACKAGE,... Ubuntu's mirror is trusted, since Debian lacks its keys. A
+# mirror of Debian's next release may be a few weeks old.
+make_system() {
+    local from
+    from=$(mirror_of debian)
+    [[ $1 != noble ]] || from="deb [trusted=yes] $(mirror_of ubuntu) noble main"
+    mmdebstrap --quiet --variant=minbase --aptopt='Acquire::Check-Valid-Until "false"' "${@:3}" "$1" "$2" "$from"
 }
 
 # The lists of a release in a folder: `make_lists deb|deb-src RELEASE FOLDER`.

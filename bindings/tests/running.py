@@ -90,6 +90,14 @@ def fetch(call, *words, release="sid"):
     return start("bash", "-c", script, "bash", call, release, *words).returncode == 0
 
 
+def make_system(folder, release, *packages):
+    """Makes a small system of a release, in which root can run commands (`in_system`), or skips the test."""
+    options = [f"--include={','.join(packages)}"] if packages else []
+    if os.geteuid() != 0 or not fetch("make_system", folder, *options, release=release):
+        pytest.skip("no mirror is reached, or there is no right to make a system")
+    return folder
+
+
 @functools.lru_cache(None)
 def built(part=MACHINE):
     """Returns the folder with a linked part, as proved and built here or in release/."""
@@ -126,6 +134,21 @@ def build_preloaded(source, folder):
 def in_namespace(script, *words):
     """Returns the words that run bash in its own mount namespace."""
     return ["unshare", "--mount", "--propagation", "private", "bash", "-euc", script, "bash", *words]
+
+
+# A shell in a system, without this one's variables: its word is a script.
+SHELL_THERE = [*"env -i HOME=/root PATH=/usr/local/bin:/usr/sbin:/usr/bin:/sbin:/bin bash -Eeuo pipefail -c".split()]
+IN_SYSTEM = """system=$1 && shift
+while [[ $1 != -- ]]; do mkdir -p "$system$1" && mount --bind "$1" "$system$1" && shift; done
+mount --rbind /dev "$system/dev" && mount -t proc proc "$system/proc"
+[[ -d $system$PWD ]] || cd /
+exec chroot "$system" env -C "$PWD" "${@:2}"
+"""
+
+
+def in_system(system, *words, shared=()):
+    """Returns the words that run a command in another system, which sees shared folders at their places."""
+    return in_namespace(IN_SYSTEM, system, *shared, "--", *words)
 
 
 def exports(file):

@@ -18,10 +18,13 @@ from packaging.version import Version
 from running import (
     CRATES_OF_DEBIAN,
     MACHINE,
+    SHELL_THERE,
     TOP,
     VERSION,
     first_lines,
     in_namespace,
+    in_system,
+    make_system,
     needs,
     project,
     refuses,
@@ -660,8 +663,6 @@ def test_each_package_works_alone_and_leaves_nothing_when_removed(with_pages, tm
 
 # ---- fresh systems
 
-THERE = '''mount --rbind /dev "$1/dev" && mount -t proc proc "$1/proc"
-exec chroot "$1" env -i PATH=/usr/local/bin:/usr/sbin:/usr/bin:/sbin:/bin bash -Eeuo pipefail -c "$2"'''
 # `swaps 'PACKAGES' PACKAGE OTHER..` installs packages, or Debian's in their place. PHP then has to call the library of
 # PACKAGE, and OTHERS have to be installed. The development files stay with either library; ours replace Debian's if
 # both our packages are named.
@@ -698,13 +699,7 @@ FRESH = {'bookworm': [INSTALLS, SWAPS, THERE_AND_BACK, UPGRADE, INSTALLS, THERE_
 @needs('mmdebstrap')
 @pytest.mark.parametrize('release', FRESH)
 def test_a_fresh_system(packages, tmp_path, release):
-    """Ubuntu's mirror, beside Debian's, is trusted, since Debian lacks its keys."""
-    system, of, sources = tmp_path / 'system', *(
-        ('ubuntu', 'deb [trusted=yes] {} noble main') if release == 'noble' else ('debian', '{}'))
-    mirror = run('bash', '-c', f'. bindings/tests/fetching.bash; mirror_of {of}').strip()
-    made = start('mmdebstrap', '--quiet', '--variant=minbase', '--include=apt', release, system, sources.format(mirror))
-    if made.returncode:
-        pytest.skip(f'{release} cannot be had: {made.stderr.splitlines()[-1:]}')
+    system = make_system(tmp_path / 'system', release, 'apt')
     copy_tree(system / 'tree')
     shutil.copytree(packages, system / 'packages')
-    run(*in_namespace(THERE, system, '\n'.join(FRESH[release])))
+    run(*in_system(system, *SHELL_THERE, '\n'.join(FRESH[release])))

@@ -1,13 +1,13 @@
 """Tests of the module for Go: its own tests on each system, what it returns for each number of the library, the package
 that its users unpack, and the logins of a service."""
-import os
 import pathlib
 import re
 import shutil
 import subprocess
 
 import pytest
-from running import CC, CODES, HEADER, MACHINE, NUMBERS, TOP, VERSION, built, needs, refuses, run, start
+from running import (
+    CC, CODES, HEADER, MACHINE, NUMBERS, SHELL_THERE, TOP, VERSION, built, in_system, make_system, needs, refuses, run)
 
 MODULE, DATA = TOP / "bindings/go", TOP / "bindings/go/tests/testdata"
 NAME = re.search("^module (.*)$", (MODULE / "go.mod").read_text(), re.M)[1]
@@ -291,27 +291,20 @@ func main() {{
 """
 # bindings/vectors/texts.txt has this tag in base64.
 TAG = "9dfeb910e80bad0311fee20f9c0e2b12c17987b4cac90c2ef54d5b3021c68bfe"
-IN_SYSTEM = """mount --rbind /dev "$1/dev" && mount -t proc proc "$1/proc"
-exec chroot "$1" env -i HOME=/root PATH=/usr/sbin:/usr/bin:/sbin:/bin bash -ec "$2"
-"""
 
 
+@needs("mmdebstrap")
 def test_the_tests_pass_on_debian_13(module, drawn, tmp_path):
     """Its Go has #cgo noescape and nocallback, which `go mod vendor` of an older Go rejects. In the newer Go, the cgo
     check is a compiler experiment."""
-    system = tmp_path / "system"
-    made = start("mmdebstrap", "--quiet", "--variant=minbase", "--include=golang-go,gcc,libc6-dev", "trixie", system,
-                 run("bash", "-c", ". bindings/tests/fetching.bash; mirror_of debian").strip()) if (
-        shutil.which("mmdebstrap") and os.geteuid() == 0) else None
-    if made is None or made.returncode:
-        pytest.skip("no mirror is reached, or there is no right to make a system")
+    system = make_system(tmp_path / "system", "trixie", "golang-go", "gcc", "libc6-dev")
     shutil.copytree(module.parent, system / "bindings", symlinks=False)
     shutil.copy(drawn["RANDOM_HASHES"], system / "random.txt")
     (program(system / "program", "/bindings/go") / "main.go").write_text(MAIN)
     script = f"""export GOPROXY=off GOTOOLCHAIN=local RANDOM_HASHES=/random.txt; cd /bindings/go
         [[ ! $(gofmt -l .) ]]; go vet ./...; go test -count=1 -race ./...; GOEXPERIMENT=cgocheck2 go test -count=1 .
         cd /program; go mod vendor; mv /bindings /other; [[ $(go run -mod=vendor .) == {TAG} ]]"""
-    run("unshare", "--mount", "--pid", "--fork", "bash", "-ec", IN_SYSTEM, "bash", system, script)
+    run(*in_system(system, *SHELL_THERE, script))
 
 
 # ---- the package

@@ -7,7 +7,8 @@ from pathlib import Path
 
 import pytest
 from running import (
-    CC, CODES, HEADER, MACHINE, NUMBERS, TOP, built, first_lines, in_namespace, needs, run, serves, start)
+    CC, CODES, HEADER, MACHINE, NUMBERS, TOP, built, first_lines, in_namespace, in_system, make_system, needs, run,
+    serves, start)
 
 JAVA, SHARED = TOP / "bindings/java", TOP / "bindings/tests"
 LIBRARIES = [f"/usr/share/java/{name}.jar" for name in ("junit-platform-console-standalone", "bcprov")]
@@ -64,12 +65,6 @@ class Program {
     }
 }
 """
-# Runs Java in another system, which sees some folders: SYSTEM FOLDERS.. -- WORD..
-ELSEWHERE = """system=$1 && shift
-while [[ $1 != -- ]]; do mkdir -p "$system$1" && mount --bind "$1" "$system$1" && shift; done
-mount --rbind /dev "$system/dev" && mount -t proc proc "$system/proc"
-exec chroot "$system" env -C "$PWD" "${@:2}"
-"""
 
 
 def pack(jar, *folders):
@@ -124,12 +119,8 @@ def test_its_own_tests_pass_in_java_17(jar, classes, drawn):
 @pytest.fixture(scope="module")
 def system(tmp_path_factory):
     """Another system, with Java 21 and 25."""
-    folder, packages = tmp_path_factory.mktemp(NEWER), "openjdk-21-jre-headless,openjdk-25-jre-headless"
-    script = 'source "$0" && mmdebstrap --quiet --variant=apt "$@" "$(mirror_of debian)"'
-    words = SHARED / "fetching.bash", f"--include={packages}", NEWER, folder / "root"
-    if start("bash", "-c", script, *words).returncode:
-        pytest.skip("no mirror is reached, or there is no right to make a system")
-    return folder / "root"
+    return make_system(tmp_path_factory.mktemp(NEWER) / "root", NEWER, "openjdk-21-jre-headless",
+                       "openjdk-25-jre-headless")
 
 
 @needs("mmdebstrap")
@@ -137,8 +128,7 @@ def system(tmp_path_factory):
 def test_its_own_tests_pass_in_newer_java(jar, classes, drawn, system, version):
     folders = TOP, jar.parent, drawn["RANDOM_HASHES"].parent, "/usr/share/java", "/usr/share/maven-repo"
     java = f"/usr/lib/jvm/java-{version}-openjdk-amd64/bin/java"
-    passes(COUNT, "unshare", "--mount", "--propagation", "private", "bash", "-euc", ELSEWHERE, "bash", system, *folders,
-           "--", java, *words_of(jar, classes, drawn, *USUAL))
+    passes(COUNT, *in_system(system, java, *words_of(jar, classes, drawn, *USUAL), shared=folders))
 
 
 @needs("aarch64-linux-gnu-gcc", "qemu-aarch64-static")

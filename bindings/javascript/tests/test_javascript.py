@@ -6,7 +6,7 @@ import sys
 from pathlib import Path
 
 import pytest
-from running import CC, MACHINE, TOP, has_node, needs, run, serves, start
+from running import CC, MACHINE, TOP, has_node, in_system, make_system, needs, run, serves
 
 HEADERS, SOURCES = TOP / "bindings/c/include", TOP / "bindings/javascript"
 NODE_API = Path("/usr/include/node/node_api.h")
@@ -17,12 +17,6 @@ OWN = *BOTH, "running", "flat"
 # The tag that libargon2's tests have for "password" and "somesalt" with two passes, 256 KiB and two lanes
 TAG = "6d093c501fd5999645e0ea3bf620d7b8be7fd2db59c20d9fff9539da2bf57037"
 WEBASSEMBLY = {"PROVED_ARGON2_NATIVE": 0}
-DEBIAN = "sid"
-# Node of the system in a folder, which sees the tests and these sources: SYSTEM SITE SOURCES WORD..
-OTHER_NODE = """for folder in "$2" "$3"; do mkdir -p "$1$folder" && mount --bind "$folder" "$1$folder"; done
-mount --rbind /dev "$1/dev" && mount -t proc proc "$1/proc"
-exec chroot "$1" env -C "$PWD" node "${@:4}"
-"""
 ASKS = {"dependencies", "optionalDependencies", "peerDependencies", "scripts", "bin"}
 
 
@@ -47,20 +41,11 @@ def test_bundlers_and_policies(site, named):
     judge(site, named, ["bundlers"])
 
 
-@pytest.fixture(scope="module")
-def system(tmp_path_factory):
-    folder = tmp_path_factory.mktemp(DEBIAN)
-    if start("debootstrap", "--print-debs", "--variant=minbase", DEBIAN, folder / "tried").returncode:
-        pytest.skip("no mirror is reached, or there is no right to make a system")
-    run("debootstrap", "--variant=minbase", "--include=nodejs", DEBIAN, folder / "root", timeout=2400)
-    return folder / "root"
-
-
-@needs("debootstrap")
-def test_its_own_tests_pass_in_the_node_of_debian_s_sid(site, named, system):
+@needs("mmdebstrap")
+def test_its_own_tests_pass_in_the_node_of_debian_s_sid(site, named, tmp_path):
     """Tests by workers use WebAssembly. The random hashes are in a file beside the site."""
-    words = "unshare", "--mount", "--propagation", "private", "bash", "-euc", OTHER_NODE, "bash"
-    judge(site, named, OWN, *words, system, site.parent, TOP)
+    system = make_system(tmp_path / "system", "sid", "nodejs")
+    judge(site, named, OWN, *in_system(system, "node", shared=(site.parent, TOP)))
 
 
 def test_the_package_has_the_licence_and_no_dependencies_or_install_scripts(site):
