@@ -1,11 +1,10 @@
 """Refuses each request for memory and each start of a worker in turn, in the tests and the programs that the proofs
-leave: a sweep for each label of LABELS. A start is refused at all of its tries and, in another run, at all but the
-last: in that run the result has to be unchanged. A label without a sweep fails, and so does a sweep without a label.
+leave: a sweep for each label, which is that of one of RUNS, or the name of a test without `_denied_in_turn`. A start is
+refused at all of its tries and, in another run, at all but the last: in that run the result has to be unchanged.
 """
 
 import re
 from itertools import accumulate, product
-from types import SimpleNamespace
 
 import pytest
 from runs import NO_MEMORY, NO_WORKER, PROCESSORS, TRIES, VALUE, Hash, copy_of, run
@@ -47,66 +46,30 @@ def labels_of(patterns):
         yield from map(''.join, product(*(part.split(',') if at % 2 else [part] for at, part in enumerate(parts))))
 
 
-# Each label is that of such a run, or a test's name without `_denied_in_turn`. Then how many workers it starts: 4
-# slices * passes * workers, at most one for each lane. Then a condition on its number of requests for memory (`own`),
-# the most that it held at once (`held`), and other labels' numbers.
-LABELS = {label: holds for patterns, *holds in (
-    # Hashing the inputs of RFC 9106: 3 passes in 4 lanes. Workers allocate a board for each slice.
-    ('hash_raw_by_workers_argon2{d,i,id}', 4 * 3 * 4,
-     lambda of: of.own == of.hash_raw_by_workers_argon2d >= of.finalize + 48 + 12),
-    ('hash_raw_by_two_workers_argon2{d,i,id}', 4 * 3 * 2,
-     lambda of: of.own == of.hash_raw_by_two_workers_argon2d >= of.finalize + 24 + 12),
-    ('hash_raw_by_forty_workers', 4 * 1 * 40, lambda of: of.own >= of.finalize + 160 + 4),
-    ('hash_encoded_by_workers', 4 * 3 * 4, lambda of: of.own == of.hash_raw_by_workers_argon2d + of.encode_string),
-    ('hash_encoded_by_two_workers', 4 * 3 * 2,
-     lambda of: of.own == of.hash_raw_by_two_workers_argon2d + of.encode_string),
-    ('hash_encoded_{in_one_thread,sequential}', 0, lambda of: of.own == of.finalize + of.encode_string),
-    ('hash_raw_{in_one_thread,sequential}_argon2{d,i,id} verify_raw_{in_one_thread,sequential}', 0,
-     lambda of: of.own == of.finalize),
-    # The matrix. Filling it in one thread allocates nothing, and the tag is one request.
-    ('memory_new', 0, lambda of: of.own > 0),
-    ('memory_new_and_filled_argon2{d,i,id} fill_memory_blocks_in_one_thread', 0, lambda of: of.own == of.memory_new),
-    ('fill_memory_blocks_by_workers', 4 * 3 * 4, lambda of: of.own == of.hash_raw_by_workers_argon2d - 1),
-    ('fill_memory_blocks_by_two_workers', 4 * 3 * 2, lambda of: of.own == of.hash_raw_by_two_workers_argon2d - 1),
-    ('finalize', 0, lambda of: of.own == of.memory_new + 1),
-    ('board_new', 0, lambda of: of.own > of.memory_new),
-    ('fill_slice', 4, lambda of: of.own >= of.board_new + 4),
-    # Verifying. A stored text is verified by 16 workers at most.
-    ('verify_raw_by_workers', 4 * 3 * 4, lambda of: of.own == of.hash_raw_by_workers_argon2d),
-    ('verify_raw_by_two_workers', 4 * 3 * 2, lambda of: of.own == of.hash_raw_by_two_workers_argon2d),
-    ('verify_encoded{,_of_another_password}', 4 * 2 * 16, lambda of: of.own == of.verify_encoded),
-    ('verify_encoded_ext_of_20_lanes', 4 * 2 * 16, lambda of: of.own > 0),
-    ('verify_encoded_{ext,within}', 4 * 3 * 4, lambda of: of.own == of.hash_raw_by_workers_argon2d + of.decode_string),
-    ('verify_encoded_{sequential,within_sequential}', 0, lambda of: of.own == of.finalize + of.decode_string),
-    # Two calls with one memory. The second allocates all but the memory. For another shape, the old memory is freed
-    # first, and the new one is held beside a tag. Before a memory is allocated, room for all of it is requested once,
-    # and freed.
-    ('{hash,verify}_raw_in_twice', 2 * 4 * 3 * 4, lambda of: of.own == 2 * of.verify_raw_by_workers - of.memory_new),
-    ('{hash,verify}_raw_in_sequential_twice', 0, lambda of: of.own == of.finalize + 1),
-    ('hash_encoded_in_twice', 2 * 4 * 3 * 4, lambda of: of.own == 2 * of.hash_encoded_by_workers - of.memory_new),
-    ('hash_encoded_in_sequential_twice', 0, lambda of: of.own == 2 * of.hash_encoded_sequential - of.memory_new),
-    ('verify_encoded_in_twice', 2 * 4 * 3 * 4, lambda of: of.own == 2 * of.verify_encoded_ext - of.memory_new),
-    ('verify_encoded_in_sequential_twice', 0, lambda of: of.own == 2 * of.verify_encoded_sequential - of.memory_new),
-    ('hash_raw_in_another_shape', 0, lambda of: of.own == of.finalize + of.memory_new and of.held == of.memory_new),
-    # An encoded hash is one request, and so are a salt and a tag: a buffer that grows would leave copies of them.
-    # And calls that reject their input before they allocate.
-    ('encode_string', 0, lambda of: of.own == 1),
-    ('decode_string', 0, lambda of: of.own == 2),
-    ('needs_{rehash,no_rehash}', 0, lambda of: of.own == of.decode_string),
-    ('head_faults a_text_within_limits_is_judged a_costly_text_of_any_length_allocates_nothing '
-     '{hashing,verifying_a_tag,verifying_an_empty_tag}_allocates_nothing '
-     '{a_string_of_no_hash,a_rejected_string,a_costly_text}_allocates_nothing', 0, lambda of: of.own == 0),
-    # Runs of the program, of 2 passes. An invalid encoded hash and one above the limits start nothing, and request
-    # memory about equally often.
-    ('program_hash_by_workers', 4 * 2 * 2, lambda of: of.own > of.program_hash_in_one_thread + 16),
-    ('program_{hash_in_one_thread,verify_in_one_thread,verify_of_another,rehash}', 0, lambda of: of.own > 0),
-    ('program_no_rehash', 0, lambda of: of.own == of.program_rehash),
-    ('tool_new', 0, lambda of: of.own == of.program_hash_in_one_thread + 1),
-    ('{program_verify,tool_check}', 4 * 2 * 16, lambda of: of.own == of.program_verify),
-    ('tool_check_of_no_text', 0, lambda of: of.own > 0),
-    # The long argument is copied to a buffer that grows, and nothing else is asked for.
-    ('tool_check_of_more_lanes', 0, lambda of: of.own <= of.tool_check_of_no_text + 16),
+# How many workers a label starts, if any: slices * passes * workers, at most one for each lane (16 verify a stored
+# string). The hashes are those of RFC 9106, with 3 passes and 4 lanes, or of the runs above.
+STARTS = {label: starts for starts, patterns in (
+    (4 * 3 * 4, 'verify_raw_by_workers hash_raw_by_workers_argon2{d,i,id} hash_encoded_by_workers '
+     'fill_memory_blocks_by_workers verify_encoded_{ext,within}'),
+    (4 * 3 * 2, 'hash_raw_by_two_workers_argon2{d,i,id} hash_encoded_by_two_workers fill_memory_blocks_by_two_workers '
+     'verify_raw_by_two_workers'),
+    (2 * 4 * 3 * 4, '{hash,verify}_{raw,encoded}_in_twice'),
+    (4 * 1 * 40, 'hash_raw_by_forty_workers'),
+    (4 * 2 * 16, 'verify_encoded{,_of_another_password,_ext_of_20_lanes} program_verify tool_check'),
+    (4 * 2 * 2, 'program_hash_by_workers'),
+    (4, 'fill_slice'),
 ) for label in labels_of(patterns)}
+# How often some labels ask for memory. A salt, a tag and an encoded hash are one request each, since a buffer that
+# grows would leave copies of them. Calls that reject their input first ask for nothing.
+REQUESTS = {label: requests for requests, patterns in (
+    (1, 'encode_string'),
+    (2, 'decode_string'),
+    (0, 'head_faults a_text_within_limits_is_judged a_costly_text_of_any_length_allocates_nothing '
+     '{hashing,verifying_a_tag,verifying_an_empty_tag,a_string_of_no_hash,a_rejected_string,a_costly_text}'
+     '_allocates_nothing'),
+) for label in labels_of(patterns)}
+SOURCES = ''.join(path.read_text(encoding='utf-8') for path in sorted(TOP.glob('crates/*/src/**/*.rt')))
+LABELS = [*re.findall(rf'^ *fn (\w+){IN_TURN}\(', SOURCES, re.M), *(label for label, *_ in RUNS)]
 
 
 @pytest.fixture(scope='module')
@@ -158,18 +121,20 @@ def sweep(words, expected):
 @pytest.fixture(scope='module')
 def came(request, sweeps):
     commands = {label: how for label, *how in sweeps}
+    assert sorted(commands) == sorted(LABELS)
     yield from ahead(request, 'label', lambda label: sweep(*commands[label]), AT_ONCE)
-
-
-def test_each_sweep_has_a_label(sweeps):
-    assert sorted(label for label, *_ in sweeps) == sorted(LABELS)
 
 
 @pytest.mark.parametrize('label', LABELS)
 def test_denied_in_turn(came, label):
-    starts, holds = LABELS[label]
-    requests, started, held, faults = came(label)
+    requests, started, _, faults = came(label)
     assert not faults
-    assert started == starts
-    others = {name: came(name)[0] for name in {*holds.__code__.co_names} & {*LABELS}}
-    assert holds(SimpleNamespace(**others, own=requests, held=held)), f'of {requests} requests, {held} held at once'
+    assert started == STARTS.get(label, 0)
+    assert requests == REQUESTS.get(label, requests)
+
+
+def test_a_hash_asks_for_its_memory_and_its_tag_alone(came):
+    """For another shape, the old memory is freed before the new one is made."""
+    memory = came('memory_new')[0]
+    assert came('hash_raw_sequential_argon2d')[0] == memory + 1
+    assert came('hash_raw_in_another_shape')[2] == memory
