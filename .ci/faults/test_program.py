@@ -3,11 +3,8 @@ would pass, words of many lengths, and inputs that are longer than any password.
 standard streams or the arguments of processes; rows of argon2_vectors say which words a command takes. Rattle's calls
 return libargon2's hashes, and no resource error, since nothing is denied. Hashes are drawn from SEED of the environment
 or from a printed seed.
-
-If the environment has OVER, the path of another tool with the same words, only that is tested.
 """
 
-import os
 import re
 import sys
 
@@ -16,11 +13,9 @@ import vectors
 from runs import SEED, Hash, copy_of, run
 from shared import TOP, output_of
 
-OTHER, DRAWS = os.environ.get('OVER'), 1000
-of_calls = pytest.mark.skipif(bool(OTHER), reason="OVER has no calls of Rattle's")
-BINARIES = ['argon2_tool'] if OTHER else ['argon2_program', 'argon2_tool']
+DRAWS, BINARIES = 1000, ('argon2_program', 'argon2_tool')
 # The longest password that any call accepts, and that the tool takes; and the address space that is left beside it.
-LONGEST, LONGEST_OF_TOOL, BESIDE = (1 << 32) - 1, 1 << 16, 6 << 30 if OTHER else 16 << 20
+LONGEST, LONGEST_OF_TOOL, BESIDE = (1 << 32) - 1, 1 << 16, 16 << 20
 # The result of a run: its status, and what it writes to output and errors.
 TRUE, FALSE, USAGE, INPUT = (0, 'true\n', ''), (1, 'false\n', ''), (3, '', 'usage\n'), (4, '', 'input\n')
 ABOVE, TOO_LONG = (5, '', 'The encoded hash is above the limits\n'), (2, '', 'Password is too long\n')
@@ -76,7 +71,7 @@ def rows():
 
 def come_to(name, words, by=None, **how):
     """Returns the result of a run, without what the tool adds to a line."""
-    came = run([*(['bash', '-c', by] if by else []), OTHER or copy_of(name), *words], False, **how)
+    came = run([*(['bash', '-c', by] if by else []), copy_of(name), *words], False, **how)
     return came.status, came.output, ADDED.sub('', came.errors) if name == 'argon2_tool' else came.errors
 
 
@@ -99,7 +94,6 @@ def test_words_of_each_length_are_used_completely(name, size):
             assert come_to(name, words, input_bytes=one.password) == expected
 
 
-@of_calls
 def test_drawn_hashes_by_the_calls(tmp_path):
     """Rattle's calls, in each thread mode: hashes in the form of bindings/vectors/raw.txt, and as encoded hashes."""
     drawn = tmp_path / 'drawn.txt'

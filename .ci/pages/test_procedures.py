@@ -2,10 +2,9 @@
 generated text about the prover's reports."""
 
 import re
-import shutil
 
 import pytest
-from common import FIRST, TOP, Copy, read, run
+from common import FIRST, Copy, read, run
 
 CONFIG, ROWS = 'crates/argon2_standard/src/config.rt', 'crates/argon2_vectors/rows.txt'
 ERRORS = 'crates/argon2_c/errors.txt'
@@ -105,31 +104,6 @@ def test_the_command_of_the_page_installs_the_packages_that_the_list_names(tmp_p
     script = f'dpkg() {{ echo amd64; }}; apt() {{ echo "$@"; }}; sha256sum * >SHA256SUMS; touch added-"$0"; {command}'
     came = run('bash', '-euc', script, 'proved-argon2_9-1_all.deb', cwd=tmp_path)
     assert came.stdout.split() == ['install', *(f'./{name}' for name in sorted(names))]
-
-
-@pytest.mark.parametrize('meanwhile, is_noted', [
-    ('true', True), ('git commit -qm later --allow-empty', False), ('touch new', False)])
-def test_ci_notes_only_the_commit_that_it_tested(tmp_path, monkeypatch, meanwhile, is_noted):
-    """Nobody else has committed, or left a file, while it ran. Such a commit would get a signed tag."""
-    for folder in '.ci/shared', '.ci/gate':
-        shutil.copytree(TOP / folder, tmp_path / folder, ignore=shutil.ignore_patterns('test_*', '__pycache__'))
-    for file in '.ci/run', 'setup.cfg', '.gitignore':
-        shutil.copy(TOP / file, tmp_path / file)
-    functions = read('.ci/CMakeLists.txt').partition('\n# ----')[0]
-    for file, text in {'build/clean': '#!/bin/sh\n', '.ci/gate/packages': '#!/bin/sh\n', '.ci/tests.txt': 'one | 1\n',
-                       '.ci/CMakeLists.txt': f'{functions}\njudge(one QUICK COMMAND sh -c "{meanwhile}")\n'}.items():
-        (tmp_path / file).parent.mkdir(exist_ok=True)
-        (tmp_path / file).write_text(text, encoding='utf-8')
-        (tmp_path / file).chmod(0o755)
-    monkeypatch.setenv('CI', 'full')
-    for role in 'AUTHOR', 'COMMITTER':
-        monkeypatch.setenv(f'GIT_{role}_NAME', PUBLISHER)
-        monkeypatch.setenv(f'GIT_{role}_EMAIL', CONTACT)
-    made = 'git init -q; git config status.showUntrackedFiles no; git add -A; git commit -qm first; git rev-parse HEAD'
-    first = run('sh', '-ec', made, cwd=tmp_path).stdout
-    assert run('.ci/run', cwd=tmp_path).stdout.endswith('\n1 passed, 0 failed, 0 skipped\n')
-    noted = tmp_path / 'out/passed'
-    assert noted.exists() == is_noted and (not is_noted or noted.read_text(encoding='utf-8') == first)
 
 
 def test_only_a_signature_over_the_checksums_passes_the_command_of_the_page(finished):

@@ -131,12 +131,6 @@ def write_program(file, *command):
     return file
 
 
-@pytest.mark.timeout(2400)
-def test_commands_over_pipes_on_arm(on_arm, tmp_path):
-    tool = write_program(tmp_path / 'argon2_tool', 'exec', *arm(on_arm / 'argon2_tool'), '"$@"')
-    output_of(*named(OVER=tool), '/usr/bin/python3', '-B', '-m', 'pytest', '-q', '.ci/faults/test_program.py')
-
-
 def test_the_launcher_runs_the_programs_for_arm(on_arm, tmp_path):
     """A stand-in for `uname` names that machine."""
     output_of(*named(MACHINE='aarch64', DESTDIR=tmp_path), './install', '/usr')
@@ -294,14 +288,6 @@ def test_dll_exports_only_header_calls_needs_only_the_system_and_can_be_anywhere
     assert {*calls} == {*linux} != set()
     assert {*re.findall(r'DLL Name: (\S+)', of_dll)} == {'ADVAPI32.dll', 'KERNEL32.dll', 'msvcrt.dll'}
     assert {'HIGH_ENTROPY_VA', 'DYNAMIC_BASE', 'NX_COMPAT'} <= {*of_dll.split()}
-
-
-@pytest.mark.parametrize('of', ['code', 'data'])
-def test_a_changed_byte_of_code_or_constants_is_found(made, tmp_path, of):
-    code = Code(made / WINDOWS / DLL)
-    at = code.place(getattr(code, of)[0][1])
-    code.content = code.content[:at] + bytes([code.content[at] ^ 1]) + code.content[at + 1:]
-    assert len(others(made, tmp_path, code)) == 1
 
 
 # ---- the library as C
