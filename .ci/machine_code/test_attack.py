@@ -27,7 +27,7 @@ FILES = 'x86_64/libproved_argon2.a', 'aarch64/libproved_argon2.a', 'wasm32/prove
 SAME = 'wasm32/proved_argon2_shared.wasm'
 # The function that prefetches ahead has code of its own in the first file; in the others it calls the compression.
 ATTACKED = [(name, function) for name in FILES for function in FUNCTIONS if function.name != AHEAD or name == FILES[0]]
-DRAWN, LEAST_FOUND, UNTIL_FORGOTTEN, SHARED = 300, 0.9, 100, 'x86_64/libproved_argon2.so.1.0.0'
+DRAWN, LEAST_FOUND, UNTIL_FORGOTTEN, SHARED = 100, 0.85, 100, 'x86_64/libproved_argon2.so.1.0.0'
 # A load, a store, a call and a prefetch of other memory.
 DOING_MORE = 'mov eax,DWORD PTR [rdi]', 'mov DWORD PTR [rdi],eax', 'call rax', 'prefetcht0 BYTE PTR [rsi]'
 # The instructions that contain constants of the definitions.
