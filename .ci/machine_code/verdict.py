@@ -8,7 +8,7 @@ of the level below as outside ones, for which it assumes only what was shown of 
 
 The system's functions may return anything. So may `fill`, in which threads fill the blocks and the progress callback is
 called, and the two functions that take and give back kept buffers. They are assumed to write only to blocks, to what
-they allocate, and to what nothing reads afterwards."""
+they allocate, and to what nothing reads afterwards, and `overwrite_blocks` to write only to the blocks."""
 
 import re
 
@@ -51,6 +51,7 @@ SYSTEM = prototypes('''
 DRIVER = prototypes('uint32_t proved_driver_compute_kept(struct call *call, const uint8_t *hash, uint8_t *tag);')
 INNER = prototypes('''
     uint32_t fill(struct call *call);
+    void overwrite_blocks(void *blocks, size_t blocks_len);
     void *take_buffer(const void *from, size_t len);
     uint64_t free_due(const void *of, uint64_t now);
 ''')

@@ -292,7 +292,7 @@ static void prefetch(uintptr_t address)
 
 /* Overwrites blocks. Many blocks seldom lie in a cache. Then each is asked for before it is overwritten: to overwrite
  * all of them at once takes 1.6 times as long, since the processor waits for their lines. */
-static void overwrite_blocks(block *blocks, size_t len)
+static __attribute__((noinline)) void overwrite_blocks(block *blocks, size_t len)
 {
     const size_t part = len < FAR ? len : sizeof *blocks;
     for (size_t at = 0; at < len; at += part) {
