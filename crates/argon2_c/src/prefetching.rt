@@ -62,8 +62,9 @@ impl Expects for Prefetches {
     }
 }
 
-/// Reads the first word of a block that will be read or overwritten soon. It promises nothing about what it
-/// returns, so no result depends on it. `build/add_kernel` replaces its machine code by prefetches.
+/// Reads the first word of a block that will be read or overwritten soon. It promises nothing
+/// about what it returns, so no result depends on it. `build/add_kernel` replaces its machine code
+/// by prefetches.
 #[unsafe(no_mangle)]
 #[inline(never)]
 pub extern "C" fn proved_argon2_expect(first: &u64) -> u64 {

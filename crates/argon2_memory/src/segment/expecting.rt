@@ -1,5 +1,5 @@
-//! Who is told which block will be read or overwritten next, so that its memory can be fetched while
-//! another block is written. Nothing is promised about it, so no result depends on it.
+//! Who is told which block will be read or overwritten next, so that its memory can be fetched
+//! while another block is written. Nothing is promised about it, so no result depends on it.
 
 ghost use Rattle.std.specs.Prelude.{◌≡◌, if◌then◌else◌};
 ghost use Rattle.argon2_blocks.specs.Standard.Block.{xor};

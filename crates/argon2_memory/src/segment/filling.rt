@@ -114,7 +114,7 @@ fn fill_dependent<E: Expects, S: OtherBlocks, O: OwnBlocks>(
         let word = dependent_word(beside, lane, index, own);
         let reference = pick(&job, lane, index, word);
         let ahead = ahead_of(&job, index);
-        if ahead.is_none() {
+        if let None = ahead {
             expects.expect(own.block(index as usize));
         }
         write_block(expects, beside, lane, index, reference, ahead, own);
