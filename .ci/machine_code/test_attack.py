@@ -43,7 +43,8 @@ class Attacked:
 
     def __init__(self, code, function, begin):
         self.code, self.function, self.begin = code, function, begin
-        runs = [function.run(code, begin, flag, code.kind.entries[0])[0] for flag in FLAGS]
+        runs, faults = zip(*(function.run(code, begin, flag, code.kind.entries[0]) for flag in FLAGS))
+        assert not any(faults), f'it has a fault as it is: {faults}'
         self.met, self.constants, self.below = [machine.met for machine in runs], runs[0].constants, runs[0].below
         self.texts = {at: code.instructions[at][0] for at in sorted(set.union(*self.met))}
         self.found, self.same, self.tried = 0, [], 0
