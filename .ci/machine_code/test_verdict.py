@@ -10,6 +10,7 @@ from machines import machines
 from shared import TOP, ready
 from verdict import driver_of, faults_of_verdicts
 
+pytestmark = pytest.mark.timeout(900)  # A loop whose rounds are followed one by one would take hours.
 MACHINES, SOURCES = ('x86_64', 'aarch64'), TOP / 'bindings/c/src'
 SHARED, ARCHIVE = 'libproved_argon2.so.1.0.0', 'libproved_argon2.a'
 # What the archive is linked into, beside the shared library: libargon2's replacement, Node's addon and both commands.
