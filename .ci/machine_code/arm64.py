@@ -2,70 +2,104 @@
 
 import functools
 import re
-from itertools import chain
 
-from machine import RETURN, Machine, add, computed, each, half_known, jump_if, known, left, parts, register, right
-from rfc9106 import MASK, rotated
-from terms import BITS, Fault, picked, variable
+from machine import WORD, add, each, left, right
+from operands import (Operand, call, computed, computed_by, constant, idle, jump, jump_if, parts, register, returned,
+                      with_flags)
+from rfc9106 import MASK
+from terms import BITS, Fault, picked
 
-REGISTER = re.compile(r'([xw])(\d+)|v(\d+)\.(?:2d|4s|2s|16b)|([xw]zr)')
-PLACE = re.compile(r'\[(x\d+|sp)(?:, #(-?\d+))?\](!?)')
-LOW = (1 << 32) - 1
-CONDITIONS = {'eq': 'e', 'ne': 'ne', 'cc': 'b', 'cs': 'ae', 'hi': 'a', 'ls': 'be'}
-SHIFTS = {'lsl': left, 'lsr': right, 'ror': rotated}
+NUMBER = re.compile(r'#?(-?0x[0-9a-f]+|-?\d+)')
+REGISTER = re.compile(r'([xw])(\d+)|([qdsb])(\d+)|v(\d+)\.(?:2d|4s|2s|16b)|([xw]zr)|(sp)')
+WIDTHS = {'x': 64, 'w': 32, 'd': 64, 's': 32, 'b': 8}
+PLACE = re.compile(r'\[(x\d+|sp)(?:, (?:#(-?\d+)|(x\d+)(?:, lsl #(\d+))?))?\](!?)')
+LOW, PART, IDLE = (1 << 32) - 1, 16, ('nop', 'bti', 'hint')
+# The names of the conditions that both processors have.
+CONDITIONS = {'eq': 'e', 'ne': 'ne', 'cc': 'b', 'cs': 'ae', 'hi': 'a', 'ls': 'be', 'lt': 'l', 'ge': 'ge', 'gt': 'g',
+              'le': 'le', 'mi': 's', 'pl': 'ns'}
 
 
-class Arm64(Machine):
-    arguments, stack_pointer = tuple(f'x{number}' for number in range(6)), 'sp'
-    saved, entries = (*(f'x{number}' for number in range(19, 30)), *(f'd{number}' for number in range(8, 16))), \
-        (0, 16, 32, 48)
+class Arm64:
+    """A run's registers. The halves of a vector have names of their own, since some lower ones are preserved: d0 is
+    lower, h0 upper. At the start of a function, the stack pointer may be as many bytes as `entries` says above
+    a multiple of the largest alignment."""
+    arguments, result, hidden, stack_pointer = tuple(f'x{number}' for number in range(8)), 'x0', 'x8', 'sp'
+    saved = *(f'x{number}' for number in range(19, 30)), *(f'd{number}' for number in range(8, 16))
+    entries, own_of_caller = (0, 16, 32, 48), 0
 
     @staticmethod
-    def fresh(when):
-        """Vectors' halves have their own names, since some lower ones are preserved: d0 is lower, h0 upper."""
-        return {f'{kind}{number}': variable(f'{when} {kind}{number}') for kind in 'xdh' for number in range(32)}
+    def decode(text):
+        return decode(text)
 
-    def enter(self, address, *arguments, flag):
-        """Begins a function, which is passed the flag as 32 bits."""
-        self.registers.update(zip(self.arguments, (*arguments, half_known(flag))))
-        self.registers['x30'] = RETURN
-        return address
+    @staticmethod
+    def fresh(word):
+        """Returns registers whose words are made by name."""
+        return {f'{kind}{number}': word(f'{kind}{number}') for kind in 'xdh' for number in range(32)}
+
+    def enter(self, values):
+        """Begins a function."""
+        self.registers.update(zip(self.arguments, values))
+        self.registers['x30'] = self.back
+        for index, value in enumerate(values[len(self.arguments):]):
+            self.store(self.registers['sp'] + WORD * index, value, WORD)
 
     def return_address(self):
         return self.registers['x30']
 
 
-def vector(number, size):
-    def write(machine, words):
-        machine.registers[f'd{number}'], machine.registers[f'h{number}'] = (*words, 0)[:2]
-    return (lambda machine: (machine.registers[f'd{number}'], machine.registers[f'h{number}'])[:size]), write
+def vector(number):
+    """A whole vector, as two words."""
+    names = f'd{number}', f'h{number}'
+
+    def write(run, words):
+        for name, word in zip(names, (*words, 0)):
+            run.put(name, word)
+    return Operand(lambda run: tuple(run.registers[name] for name in names), write, 2 * BITS)
+
+
+def lowest(number, width):
+    """The lowest part of a vector. A write clears the rest."""
+    def write(run, word):
+        run.put(f'd{number}', word)
+        run.put(f'h{number}', 0)
+    return Operand(lambda run: run.part(f'd{number}', 0, width), write, width)
 
 
 def operand(text):
-    """Returns functions that read and write a register or number."""
-    if re.fullmatch(r'#-?(0x[0-9a-f]+|\d+)|0x[0-9a-f]+', text):
-        number = int(text.removeprefix('#'), 0) & MASK
-        return (lambda machine: number), None
-    if text == 'sp':
-        return register('sp', MASK)
+    """Returns a number, or a register or its part."""
+    if found := NUMBER.fullmatch(text):
+        return constant(int(found[1], 0))
     found = REGISTER.fullmatch(text)
     if not found:
         raise Fault(f'the operand {text} is not known')
-    kind, number, of_vector, zero = found.groups()
+    kind, number, of_lowest, place, of_vector, zero, stack_pointer = found.groups()
     if zero:  # (what is written to it is lost)
-        return (lambda machine: 0), (lambda machine, word: None)
-    if of_vector:
-        return vector(of_vector, 2)
-    return register(f'x{number}', LOW if kind == 'w' else MASK)
+        return Operand(lambda run: 0, lambda run, word: None, WIDTHS[zero[0]])
+    if of_vector or of_lowest == 'q':
+        return vector(of_vector or place)
+    return lowest(place, WIDTHS[of_lowest]) if of_lowest else register(stack_pointer or f'x{number}', 0,
+                                                                       WIDTHS[kind or 'x'])
 
 
-def readers(words):
-    """Returns what reads operands, of which the last may say how the one before is shifted."""
+SHIFTS = {'lsl': lambda run, x, count: x << count, 'lsr': lambda run, x, count: run.right(x, count),
+          'asr': lambda run, x, count: run.right_signed(x, count), 'ror': lambda run, x, count: run.rotated(x, count)}
+
+
+def shifted(name, source, count):
+    """An operand that is shifted by a number. A rotation is known of 64 bits only."""
+    if count.number is None or not 0 <= count.number < source.width or name == 'ror' and source.width < BITS:
+        raise Fault(f'{name} does not shift a word by a number')
+    mask = (1 << source.width) - 1
+    return Operand(lambda run: SHIFTS[name](run, source.read(run), count.number) & mask, None, source.width)
+
+
+def operands_of(words):
+    """Returns operands, of which the last may say how the one before is shifted."""
     shift, _, count = words[-1].partition(' ')
     if shift not in SHIFTS:
-        return [operand(word)[0] for word in words]
-    *plain, last = (operand(word)[0] for word in words[:-1])
-    return [*plain, lambda machine: SHIFTS[shift](last(machine), int(count.removeprefix('#')))]
+        return [operand(word) for word in words]
+    *plain, last = (operand(word) for word in words[:-1])
+    return [*plain, shifted(shift, last, operand(count))]
 
 
 def halves_multiplied(one, other):
@@ -82,7 +116,8 @@ def inserted(words, shifted, count):
 # vectors, each operand's arrangement follows the name.
 VECTOR = {
     'add 2d 2d 2d': each(add), 'eor 16b 16b 16b': each(lambda x, y: x ^ y), 'shl 2d 2d': each(left),
-    'mov 16b 16b': tuple,
+    'mov 16b 16b': tuple, 'dup 2d': lambda word: (word, word), 'movi 2d': lambda word: (word, word),
+    'movi 4s': lambda half: (half * 0x100000001,) * 2, 'movi 16b': lambda byte: (byte * 0x0101010101010101,) * 2,
     'xtn 2s 2d': lambda words: picked(words, (0, 2), 32), 'rev64 4s 4s': lambda words: picked(words, (1, 0, 3, 2), 32),
     'uzp1 4s 4s 4s': lambda one, other: picked((*one, *other), (0, 2, 4, 6), 32),
     'umull 2d 2s 2s': lambda one, other: halves_multiplied(one[0], other[0]),
@@ -91,97 +126,109 @@ ONTO = {
     'sri 2d 2d': inserted, 'usra 2d 2d': lambda words, shifted, count: each(add)(words, each(right)(shifted, count)),
     'umlal 2d 2s 2s': lambda words, one, other: each(add)(words, halves_multiplied(one[0], other[0])),
     'umlal2 2d 4s 4s': lambda words, one, other: each(add)(words, halves_multiplied(one[1], other[1]))}
-GENERAL = {'add': add, 'sub': lambda x, y: x - y & MASK, 'eor': lambda x, y: x ^ y, 'mov': lambda x: x, **SHIFTS}
+# These are passed the run's engine.
+GENERAL = {
+    'add': lambda run, x, y: x + y, 'sub': lambda run, x, y: x - y, 'eor': lambda run, x, y: x ^ y,
+    'and': lambda run, x, y: run.masked(x, y), 'orr': lambda run, x, y: x | y, 'neg': lambda run, x: 0 - x,
+    **dict.fromkeys(('mov', 'adrp'), lambda run, x: x),
+    'mul': lambda run, x, y: run.product(x, y), 'madd': lambda run, x, y, z: run.product(x, y) + z,
+    'umull': lambda run, x, y: run.product(run.resized(x, BITS), run.resized(y, BITS)),
+    'udiv': lambda run, x, y: run.unknown('quotient', x, y),
+    'ubfx': lambda run, x, low, width: run.right(x, low) & (1 << width) - 1,
+    'ubfiz': lambda run, x, low, width: (x & (1 << width) - 1) << low}
+# By what these set the flags, and what they compute for it.
+TESTED = {'cmp': (GENERAL['sub'], 'difference'), 'cmn': (GENERAL['add'], 'sum with inverted carry'),
+          'tst': (GENERAL['and'], 'shift')}
+# The two words of which a condition chooses.
+CHOSEN = {'csel': lambda x, y: (x, y), 'csinc': lambda x, y: (x, y + 1), 'cset': lambda: (1, 0),
+          'cinv': lambda x: (x ^ MASK, x)}
 
 
-def stored(registers, is_vector):
-    def access(machine, place):
-        values = [read(machine) for read, _ in registers]
-        machine.store(place, [*chain(*values)] if is_vector else values)
-    return access
+def place(text):
+    """Returns the base of an address, and what computes the address, and moves its base there if the operand says so.
+    """
+    found = PLACE.fullmatch(text)
+    if not found:
+        raise Fault(f'the address {text} is not known')
+    base, offset, index, shift, is_moved = found.groups()
 
-
-def loaded(registers, is_vector, size):
-    def access(machine, place):
-        words = machine.load(place, size * len(registers))
-        for index, (_, write) in enumerate(registers):
-            write(machine, words[size * index:][:size] if is_vector else words[index])
-    return access
+    def at(run):
+        begin = run.registers[base] + (run.registers[index] << int(shift or 0) if index else int(offset or 0))
+        if is_moved:
+            run.put(base, begin)
+        return begin
+    return base, at
 
 
 def moved(mnemonic, words):
-    """Loads and stores of one register or two. The base may keep the address, or be moved afterwards."""
+    """Loads and stores of one register or two. The base may be moved afterwards, by the operand behind the address."""
     index = next((index for index, word in enumerate(words) if word.startswith('[')), len(words) - 1)
-    found, behind, kind = PLACE.fullmatch(words[index]), words[index + 1:], words[0][0]
-    if not found or len(behind) > (not found[2]) or kind not in 'xdq':
-        raise Fault(f'the operands {words} of {mnemonic} are not known')
-    base, offset, size = found[1], int(found[2] or 0), 2 if kind == 'q' else 1
-    registers = [operand(word) if kind == 'x' else vector(word[1:], size) for word in words[:index]]
-    access = stored(registers, kind in 'dq') if mnemonic[0] == 's' else loaded(registers, kind in 'dq', size)
+    (base, at), registers = place(words[index]), [operand(word) for word in words[:index]]
+    size, behind = {'b': 1, 'h': 2}.get(mnemonic[-1], registers[0].width // 8), [*map(operand, words[index + 1:])]
 
-    def step(machine):
-        place = add(machine.registers[base], offset)
-        if found[3]:
-            machine.registers[base] = place
-        access(machine, place)
-        if behind:
-            machine.registers[base] = add(place, int(behind[0].removeprefix('#')))
+    def step(run):
+        values = [source.read(run) for source in registers]
+        begin = at(run)
+        for order, (value, one) in enumerate(zip(values, registers)):
+            if mnemonic[0] == 's':
+                run.store(begin + order * size, value, size)
+            else:
+                one.write(run, run.load(begin + order * size, size))
+        for distance in behind:
+            run.put(base, begin + distance.number)
     return step
 
 
-def prefetch(text):
-    """Takes note of an address."""
-    found = PLACE.fullmatch(text)
-    if not found or found[3]:
-        raise Fault(f'the operand {text} of a prefetch is not known')
-    return lambda machine: machine.prefetched.append(add(machine.registers[found[1]], int(found[2] or 0)))
-
-
-def call(to):
-    def step(machine):
-        machine.registers['x30'] = machine.after
-        return to(machine)
+def branch_on(word, bit, is_zero, to):
+    """cbz, cbnz, tbz and tbnz: jumps if a word or a bit of it is zero, or is not, and leaves the flags."""
+    def step(run):
+        value = word.read(run) if bit is None else run.right(word.read(run), bit) & 1
+        return run.is_zero(value) == is_zero, to.read(run)
     return step
 
 
-def jump_if_zero(is_zero, source, to):
-    """cbz or cbnz: jumps if a word is zero, or is not, and leaves the flags."""
-    return lambda machine: to(machine) if (known(source(machine), 'it branches on data') == 0) == is_zero else None
-
-
-def in_part(read, write, number, shift):
-    """movk, which writes 16 bits of a number."""
-    def step(machine):
-        word = known(read(machine), 'it writes a part of data')
-        write(machine, word & ~(0xffff << shift) | number(machine) << shift)
+def in_part(name, width, value, low):
+    """movk, which writes 16 bits of a register."""
+    def step(run):
+        run.put(name, value, low, PART)
+        run.put(name, run.part(name, 0, width), 0, width)
     return step
 
 
-def inverted_if(condition, source, target):
-    return lambda machine: target(machine, source(machine) ^ (MASK if machine.holds(condition) else 0))
+def choose(function, words):
+    """csel and its kin."""
+    target, condition = operand(words[0]), CONDITIONS.get(words[-1])
+    sources = [operand(word) for word in words[1:-1]]
+    return lambda run: target.write(run, run.choose(
+        condition, *function(*(source.read(run) for source in sources)), target.width))
 
 
-def control(mnemonic, words):
+def keep_return(run, address):
+    run.put('x30', address)
+
+
+def special(mnemonic, words):
     """Instructions with operands of their own kinds, or none."""
     name, _, condition = mnemonic.partition('.')
-    sources = [operand(word)[0] for word in words if not word.startswith('lsl #') and word not in CONDITIONS]
     match name, len(words):
         case 'ret', 0:
-            return Arm64.return_address
-        case 'b', 1:
-            return jump_if(CONDITIONS.get(condition), sources[0]) if condition else sources[0]
-        case 'bl', 1:
-            return call(sources[0])
-        case ('cbz' | 'cbnz'), 2:
-            return jump_if_zero(name == 'cbz', *sources)
-        case 'cmp', 2:
-            return lambda machine: machine.compare(*(source(machine) for source in sources))
-        case 'cset', 2:
-            return lambda machine: operand(words[0])[1](machine, int(machine.holds(CONDITIONS.get(words[1]))))
-        case 'cinv', 3:
-            return inverted_if(CONDITIONS.get(words[2]), sources[1], operand(words[0])[1])
+            return returned
+        case 'b', 1 if condition:
+            return jump_if(CONDITIONS.get(condition), operand(words[0]))
+        case ('b' | 'br'), 1:
+            return jump(operand(words[0]))
+        case ('bl' | 'blr'), 1:
+            return call(keep_return, operand(words[0]))
+        case (('cbz' | 'cbnz'), 2) | (('tbz' | 'tbnz'), 3):
+            bit = operand(words[1]).number if name[0] == 't' else None
+            return branch_on(operand(words[0]), bit, 'n' not in name, operand(words[-1]))
+        case 'ccmp', 4:
+            kind, flags = TESTED['cmp'][1], operand(words[2]).number
+            one, other = (operand(word) for word in words[:2])
+            return lambda run: run.compare_if(CONDITIONS.get(words[3]), kind, (one.read(run), other.read(run)), flags)
         case 'movk', (2 | 3):
-            return in_part(*operand(words[0]), sources[1], int(words[2].removeprefix('lsl #')) if words[2:] else 0)
+            low = int(words[2].removeprefix('lsl #')) if words[2:] else 0
+            return in_part(f'x{words[0][1:]}', WIDTHS[words[0][0]], operand(words[1]).number, low)
     raise Fault(f'the instruction {mnemonic} of {len(words)} operands is not known')
 
 
@@ -190,19 +237,24 @@ def decode(text):
     """Returns an instruction as a step."""
     mnemonic, _, rest = text.partition('\t')
     words = parts(rest)
-    if mnemonic == 'nop':
-        return lambda machine: None
+    if mnemonic in IDLE:
+        return idle
     if mnemonic == 'prfm' and len(words) == 2:
-        return prefetch(words[1])
-    if re.fullmatch('(ld|st)(p|u?r)', mnemonic) and words:
+        _, at = place(words[1])
+        return lambda run: run.prefetch(at(run))
+    if re.fullmatch('(ld|st)(p|u?r[bh]?)|ldar|stlr', mnemonic) and len(words) > 1:
         return moved(mnemonic, words)
-    divided = [word.partition('.')[2] for word in words if word.startswith('v')]
-    form = ' '.join((mnemonic, *divided))
-    if form in ONTO:
-        return computed(ONTO[form], readers(words), operand(words[0])[1])
-    function = VECTOR.get(form) if divided else GENERAL.get(mnemonic)
-    is_shifted = any(word.partition(' ')[0] in SHIFTS for word in (mnemonic, *words))  # (only by numbers, of 64 bits)
-    is_known = divided or not is_shifted or '#' in words[-1] and not any(word.startswith('w') for word in words)
-    if function and len(words) > 1 and is_known:
-        return computed(function, readers(words[1:]), operand(words[0])[1])
-    return control(mnemonic, words)
+    arrangements = [word.partition('.')[2] for word in words if word.startswith('v')]
+    form = ' '.join((mnemonic, *arrangements))
+    if form in ONTO or arrangements and form in VECTOR:
+        function = ONTO.get(form) or VECTOR[form]
+        return computed(function, operands_of(words if form in ONTO else words[1:]), operand(words[0]))
+    if mnemonic in CHOSEN:
+        return choose(CHOSEN[mnemonic], words)
+    if mnemonic in TESTED:
+        return with_flags(*TESTED[mnemonic], operands_of(words))
+    if mnemonic in SHIFTS and len(words) == 3:
+        return computed_by(lambda run, word: word, [shifted(mnemonic, *map(operand, words[1:]))], operand(words[0]))
+    if mnemonic in GENERAL and len(words) > 1 and not arrangements:
+        return computed_by(GENERAL[mnemonic], operands_of(words[1:]), operand(words[0]))
+    return special(mnemonic, words)

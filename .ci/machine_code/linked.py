@@ -21,8 +21,8 @@ from machine import WORD
 from terms import Fault
 
 X86, ARM64, OBJECT = 62, 183, 1  # (numbers of ELF)
-# For each machine: the prefix of binutils' names, objdump's options, and what runs and reads instructions.
-KINDS = {X86: ('', ('-M', 'intel'), x86.X86, x86.decode), ARM64: ('aarch64-linux-gnu-', (), arm64.Arm64, arm64.decode)}
+# For each machine: the prefix of binutils' names, objdump's options, and the processor.
+KINDS = {X86: ('', ('-M', 'intel'), x86.X86), ARM64: ('aarch64-linux-gnu-', (), arm64.Arm64)}
 WINDOWS = 'x86_64-w64-mingw32-', *KINDS[X86][1:]
 # In objects that are linked here without a C library, memset is at this address. Elsewhere it has these names
 # (build/link).
@@ -67,7 +67,7 @@ class Code:
         header = content[max(content.find(b'\x7fELF'), 0):]
         is_windows = path.parent.name.startswith('windows')
         self.number = int.from_bytes(header[18:20], 'little')
-        prefix, self.words, self.kind, self.decode = WINDOWS if is_windows else KINDS[self.number]
+        prefix, self.words, self.processor = WINDOWS if is_windows else KINDS[self.number]
         self.objdump = require(f'{prefix}objdump')
         if content[:2] == b'MZ' or content[:4] == b'\x7fELF' and content[16] != OBJECT:
             self.read(path)
@@ -114,12 +114,17 @@ class Code:
         """Returns where a function begins, once for each build."""
         return sorted(begin for begin, name in self.names.items() if name.endswith(f'::{function.name}'))
 
+    @staticmethod
+    def begin(address):
+        """Returns the first instruction of a function, which is where it begins."""
+        return address
+
     def at(self, address):
-        """Returns what an instruction does, and its size."""
+        """Returns an instruction, its size, and the step that it takes."""
         if address not in self.instructions:
             raise Fault(f'there is no instruction at {address:#x}')
         text, size = self.instructions[address]
-        return self.decode(text), size
+        return text, size, self.processor.decode(text)
 
     def place(self, address):
         """Returns where in the file an address is."""

@@ -1,11 +1,11 @@
-"""The parts that all machines share: memory, and running a function on terms instead of numbers."""
+"""The engine for the compression functions: memory, and running a function on terms instead of numbers."""
 
 import operator
-import re
 
-from terms import BITS, MASK, Fault, joined, linear, variable
+from rfc9106 import rotated
+from terms import BITS, MASK, Fault, cut, joined, linear, variable
 
-WORD, LARGEST_UNIT = 8, 64
+WORD, HALF, LARGEST_UNIT = 8, 32, 64
 # More instructions and bytes of stack than any function needs.
 STEPS, FRAME = 100_000, 1 << 14
 STACK, RETURN = variable('stack'), variable('return')
@@ -15,22 +15,25 @@ CONDITIONS = {'e': operator.eq, 'ne': operator.ne, 'b': operator.lt, 'ae': opera
 
 class Machine:
     """A processor that begins a function. Its registers hold terms. Memory consists of regions: the stack, and those
-    that the function is passed, by their size in bytes. It may write only to the stack and `written`."""
-    # The registers of integer arguments, the stack pointer, the registers that a function has to preserve, and the part
-    # of its caller's stack that it owns. At its start the stack pointer may be this many bytes above a multiple of the
-    # largest alignment.
-    arguments, stack_pointer, saved, own_of_caller, entries = (), '', (), 0, ()
+    that the function is passed, by their size in bytes. It may write only to the stack and `written`. The class of
+    a processor (x86.py, arm64.py) has the registers."""
+    # The address to which the function returns.
+    back = RETURN
 
     def __init__(self, code, regions, written, entry):
         self.code, self.regions, self.written, self.end = code, regions, written, entry + self.own_of_caller
         self.memory, self.flags, self.after, self.met, self.constants, self.below = {}, None, 0, set(), set(), 0
-        self.prefetched = []
-        self.registers = {**self.fresh('first'), self.stack_pointer: STACK + entry}
+        self.steps, self.text, self.returns, self.prefetched = 0, '', (), []
+        self.registers = {**self.named('first'), self.stack_pointer: STACK + entry}
         self.before = {**self.registers, self.stack_pointer: STACK + self.end}
+
+    def named(self, when):
+        """Returns a variable for each word of the registers."""
+        return self.fresh(lambda name: variable(f'{when} {name}'))
 
     def run(self, address):
         """Runs a function until it returns."""
-        for _ in range(STEPS):
+        for self.steps in range(STEPS):
             if address is RETURN:
                 return
             if not isinstance(address, int):
@@ -38,10 +41,11 @@ class Machine:
             if address in self.code.clears:
                 address = self.clear_words()
             else:
-                step, size = self.code.at(address)
+                self.text, size, step = self.code.at(address)
                 self.met.add(address)
                 self.after = address + size
-                address = step(self) or self.after
+                jumps, to = step(self) or (False, None)
+                address = to if jumps else self.after
         raise Fault(f'it has not returned after {STEPS} instructions')
 
     def find(self, word):
@@ -74,32 +78,54 @@ class Machine:
             raise Fault('it reads of its stack what it did not write')
         return self.memory.get((region, at), variable(f'{region}{at // WORD}'))
 
-    def load(self, address, count, unit=WORD):
-        if not isinstance(address, int):
-            return tuple(self.word_at(*place) for place in self.places(address, count, unit))
-        self.constants.update(range(address, address + WORD * count))
-        return tuple(self.code.constant(address + WORD * index) for index in range(count))
+    def load(self, address, size, unit=WORD):
+        """Returns a word of memory, or the words of a vector."""
+        count, rest = divmod(size, WORD)
+        if rest:
+            raise Fault(f'it reads {size} bytes')
+        if isinstance(address, int):
+            self.constants.update(range(address, address + size))
+            words = tuple(self.code.constant(address + WORD * index) for index in range(count))
+        else:
+            words = tuple(self.word_at(*place) for place in self.places(address, count, unit))
+        return words if count > 1 else words[0]
 
-    def store(self, address, words, unit=WORD):
-        places = self.places(address, len(words), unit)
+    def store(self, address, value, size, unit=WORD):
+        """Writes a word, or words."""
+        if size % WORD:
+            raise Fault(f'it writes {size} bytes')
+        places = self.places(address, size // WORD, unit)
         if places and places[0][0] not in {self.written, 'stack'}:
             raise Fault(f'it writes to {places[0][0]}')
-        self.memory.update(zip(places, words))
+        self.memory.update(zip(places, value if isinstance(value, tuple) else (value & MASK,)))
 
     def clear(self, address, byte, size):
         """Clears memory as memset does."""
         if not isinstance(size, int) or size % WORD or byte != 0:
             raise Fault('it fills memory with other than words of zero')
         # places() first rejects a wrong size, whose zeros may exceed memory.
-        self.store(address, [0] * len(self.places(address, size // WORD, WORD)))
+        self.store(address, (0,) * len(self.places(address, size // WORD, WORD)), size)
 
     def clear_words(self):
         """A call of memset, which may change the other registers."""
         self.clear(*(self.registers[name] for name in self.arguments[:3]))
         back, self.flags = self.return_address(), None
         preserved = *self.saved, self.stack_pointer
-        self.registers |= {name: word for name, word in self.fresh('left').items() if name not in preserved}
+        self.registers |= {name: word for name, word in self.named('left').items() if name not in preserved}
         return back
+
+    def part(self, name, low=0, width=BITS):
+        """Returns a part of a register."""
+        word = self.registers[name]
+        return word if width == BITS else word >> low & (1 << width) - 1
+
+    def put(self, name, word, low=0, width=BITS):
+        """Writes a part of a register. A part of 32 bits clears those above it; beside smaller ones the others stay."""
+        word = word & (1 << width) - 1
+        if width < HALF:
+            whole, end = self.registers[name], low + width
+            word = joined(*cut(whole, 0, low), *cut(word, 0, width), *cut(whole, end, BITS - end))
+        self.registers[name] = word
 
     def masked(self, word, mask):
         """AND; also of a stack address, whose lowest bits are known."""
@@ -108,8 +134,10 @@ class Machine:
             return word & mask
         return STACK + (at & mask - (1 << BITS))
 
-    def compare(self, one, other):
-        self.flags = (one, other) if isinstance(one, int) and isinstance(other, int) else None
+    def set_flags(self, kind, operands, result):
+        """Notes the numbers that conditions compare, if all are numbers."""
+        pair = operands if kind == 'difference' else (result, 0) if kind == 'bits' else (None, None)
+        self.flags = (*pair,) if all(isinstance(word, int) for word in pair) else None
 
     def holds(self, condition):
         """Returns whether a condition holds, which may depend only on numbers."""
@@ -117,20 +145,56 @@ class Machine:
             raise Fault(f'it depends on data, or the condition {condition} is not known')
         return CONDITIONS[condition](*self.flags)
 
+    def choose(self, condition, one, other, _width=BITS):
+        """Returns one of two words. If the condition depends on data, nothing is known of the result."""
+        if self.flags is None:
+            return variable(f'chosen at {self.steps}')
+        return one if self.holds(condition) else other
+
+    @staticmethod
+    def is_zero(word):
+        return known(word, 'it branches on data') == 0
+
+    @staticmethod
+    def known(word):
+        return known(word, 'it counts by data')
+
+    @staticmethod
+    def product(one, other):
+        return one * other
+
+    @staticmethod
+    def right(word, count):
+        return word >> count
+
+    @staticmethod
+    def rotated(word, count):
+        return rotated(word, count)
+
+    @staticmethod
+    def resized(word, _width):
+        """Reading clears the bits above an operand, and writing cuts a word."""
+        return word
+
+    def prefetch(self, address):
+        """Takes note of an address, which may be computed from data."""
+        self.prefetched.append(address)
+
+    def left_behind(self):
+        """Returns the vectors in which words of blocks must not stay, and do."""
+        return []
+
     def fault(self, words, cleared):
         """Returns what is wrong with a function's results, which have to be words in the written region, and this many
         zeros in its own frame."""
         wrong = [at for at, word in enumerate(words) if self.word_at(self.written, WORD * at) != word]
         changed = [name for name in (*self.saved, self.stack_pointer) if self.registers[name] != self.before[name]]
         zeros = sum(region == 'stack' and word == 0 for (region, _), word in self.memory.items())
+        stay = self.left_behind()
         return (f'{len(wrong)} of {len(words)} words are wrong' if wrong else
                 f'it clears {zeros} words of its frame, of {cleared}' if zeros < cleared else
-                f'it does not restore {", ".join(changed)}' if changed else None)
-
-
-def parts(text):
-    """Returns the operands of an instruction: a comma within brackets divides none."""
-    return [part.strip() for part in re.findall(r'(?:[^,\[]|\[[^\]]*\])+', text)]
+                f'it does not restore {", ".join(changed)}' if changed else
+                f'it leaves words in {", ".join(stay)}' if stay else None)
 
 
 def known(word, fault):
@@ -143,31 +207,6 @@ def known(word, fault):
 def half_known(number):
     """Returns a register of whose upper half nothing is known."""
     return joined((number, 0, BITS // 2), (variable('upper half'), 0, BITS // 2))
-
-
-def register(name, mask):
-    def write(machine, word):
-        machine.registers[name] = word & mask
-    return (lambda machine: machine.registers[name] & mask), write
-
-
-def computed(function, sources, target):
-    """Returns the step that writes what a function makes of operands."""
-    return lambda machine: target(machine, function(*(source(machine) for source in sources)))
-
-
-def picked_if(condition, source, target):
-    """Writes an operand if a condition holds. If that depends on data, nothing is known of the result."""
-    def step(machine):
-        if machine.flags is None:
-            target(machine, variable(f'picked at {machine.after}'))
-        elif machine.holds(condition):
-            target(machine, source(machine))
-    return step
-
-
-def jump_if(condition, to):
-    return lambda machine: to(machine) if machine.holds(condition) else None
 
 
 def each(function):

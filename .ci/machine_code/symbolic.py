@@ -10,13 +10,13 @@ from dataclasses import dataclass, field
 from itertools import count
 
 import z3
-from headers import BITS, SIZES, UNITS, WORD
+from headers import BITS, HALF, SIZES, UNITS, WORD
 from terms import Fault
 from z3.z3util import get_vars
 
 RED_ZONE, MOST_JOINED, LARGEST_FRAME = 128, 16, 1 << 20  # (in bytes)
 STEPS = 20_000  # more instructions than any path has
-STACK, RETURN, RETURN_ADDRESS, ALWAYS = 'stack', z3.BitVec('return', BITS), -1, z3.BoolVal(True)
+STACK, RETURN, RETURN_ADDRESS = 'stack', z3.BitVec('return', BITS), -1
 POINTED = {**SIZES, 'int': 4}
 # If a call writes a known number of bytes, and at most LARGEST, each of these bytes is written here too. Arguments of
 # at most MOST_SEEN bytes are noted.
@@ -30,7 +30,9 @@ def number(value, width=BITS):
 
 
 def resized(value, width):
-    """The low bits of a value, or the value with zeros above it."""
+    """The low bits of a value, or the value with zeros above it; or a number."""
+    if isinstance(value, int):
+        return number(value, width)
     size = value.size()
     return value if size == width else z3.Extract(width - 1, 0, value) if width < size else \
         z3.ZeroExt(width - size, value)
@@ -79,14 +81,35 @@ def is_zero(value):
 
 def compared(one, other):
     """The conditions after a subtraction."""
-    found = {'e': one == other, 'b': z3.ULT(one, other), 'be': z3.ULE(one, other), 'l': one < other, 'le': one <= other,
-             's': one - other < 0}
-    return lambda condition: condition_of(found, condition)
+    return {'e': one == other, 'b': z3.ULT(one, other), 'be': z3.ULE(one, other), 'l': one < other, 'le': one <= other,
+            's': one - other < 0}
 
 
-def shifted(result):
-    """The conditions after operations whose carry is not looked at."""
-    return lambda condition: condition_of({'e': is_zero(result), 's': result < 0}, condition)
+def added(one, result, has_inverted_carry=False):
+    """The conditions after a sum. On ARM64, a carry counts as that of a comparison that is not below."""
+    found, has_carry = {'e': is_zero(result), 's': result < 0}, z3.ULT(result, one)
+    if not has_inverted_carry:
+        return {**found, 'b': has_carry}
+    return {**found, 'b': z3.Not(has_carry), 'be': z3.Or(z3.Not(has_carry), found['e'])}
+
+
+# The conditions after an operation of some kind, by its operands and its result: of shifts, nobody looks at the carry.
+CONDITIONS = {
+    'difference': lambda operands, result: compared(*operands),
+    'negation': lambda operands, result: compared(number(0, result.size()), *operands),
+    'sum': lambda operands, result: added(operands[0], result),
+    'sum with inverted carry': lambda operands, result: added(operands[0], result, True),
+    'bits': lambda operands, result: {'e': is_zero(result), 'b': z3.BoolVal(False), 'be': is_zero(result),
+                                      's': result < 0, 'l': result < 0, 'le': result <= 0},
+    'shift': lambda operands, result: {'e': is_zero(result), 's': result < 0}}
+
+
+def immediate(flags):
+    """The conditions if an instruction sets the flags N, Z, C and V."""
+    negative, zero, carry, overflow = (bool(flags & bit) for bit in (8, 4, 2, 1))
+    return {name: z3.BoolVal(value) for name, value in {
+        'e': zero, 'b': not carry, 'be': not carry or zero, 'l': negative != overflow,
+        'le': zero or negative != overflow, 's': negative}.items()}
 
 
 OPPOSITES = {'ne': 'e', 'ae': 'b', 'a': 'be', 'ge': 'l', 'g': 'le', 'ns': 's'}
@@ -100,23 +123,11 @@ def condition_of(found, condition):
     return z3.Not(found[opposite]) if opposite else found[condition]
 
 
-def holds(path, condition):
-    """Whether a condition holds, by the flags of a path."""
-    if path.flags is None:
-        raise Fault('it branches on flags of which nothing is known')
-    return path.flags(condition)
-
-
-def product(one, other):
-    """Of two terms, nothing but their product's name is known."""
-    if any(z3.is_bv_value(z3.simplify(value)) for value in (one, other)):
-        return one * other
-    return unknown('product', *sorted((one, other), key=lambda value: value.get_id()))
-
-
-def unknown(name, *values):
-    """A function of which nothing is known."""
-    return z3.Function(f'{name}{values[0].size()}', *(value.sort() for value in values), values[0].sort())(*values)
+def either(is_one, first, second):
+    """One of two words, or of two vectors' words."""
+    if isinstance(first, tuple):
+        return tuple(either(is_one, *pair) for pair in zip(first, second))
+    return first if first.eq(second) else z3.simplify(z3.If(is_one, first, second))
 
 
 @dataclass(eq=False)
@@ -145,11 +156,13 @@ class Write:
 
 
 class Run:
-    """A run of a function up to some instruction."""
+    """A run of a function up to some instruction. The class of a processor (x86.py, arm64.py) has the registers."""
+    back = RETURN
 
-    def __init__(self, registers):
-        self.registers, self.memory, self.flags, self.conditions, self.events = dict(registers), {}, None, [], []
-        self.at, self.after, self.returns, self.steps, self.unknown = 0, 0, (), 0, frozenset()
+    def __init__(self, machine, registers):
+        self.machine, self.registers, self.memory, self.flags = machine, dict(registers), {}, None
+        self.conditions, self.events, self.unknown_bytes = [], [], frozenset()
+        self.at, self.after, self.returns, self.steps = 0, 0, (), 0
 
     def fork(self):
         """Another run that goes on from here."""
@@ -166,7 +179,7 @@ class Run:
     def write(self, begin, size, by):
         """Notes that bytes were written whose values are not known: they cannot be read."""
         self.events.append(Write(begin, size, by))
-        self.unknown |= variables(begin)
+        self.unknown_bytes |= variables(begin)
 
     def calls(self, *names):
         return [event for event in self.events if isinstance(event, Call) and event.name in names]
@@ -174,15 +187,85 @@ class Run:
     def writes(self):
         return [event for event in self.events if isinstance(event, Write)]
 
+    # ---- what instructions use
 
-class Processor:
-    """A processor that runs a file's functions. A class for a machine says in which registers integers are passed and
-    returned, which has the place of a structure that a function returns (`hidden`), which registers a function
-    preserves, which others there are, and which of those are vectors."""
-    arguments, result, hidden, stack_pointer, saved, others, vectors = (), '', '', '', (), (), ()
+    def part(self, name, low=0, width=BITS):
+        return bits(self.registers[name], low, width)
 
-    def __init__(self, code, outside, effects=None):
-        self.code, self.outside, self.effects, self.solver = code, outside, effects or {}, z3.Solver()
+    def put(self, name, value, low=0, width=BITS):
+        """Writes a part of a register. A part of 32 bits clears those above it; beside smaller ones the others stay."""
+        value, whole, end = resized(value, width), self.registers[name], low + width
+        if width < HALF:
+            above, below = ([bits(whole, *place)] if place[1] else [] for place in ((end, BITS - end), (0, low)))
+            value = z3.Concat(*above, value, *below)
+        self.registers[name] = z3.simplify(resized(value, BITS))
+
+    def load(self, address, size, _unit=None):
+        """A value of at most a word, or the words of a vector."""
+        value = self.machine.load(self, resized(address, BITS), size)
+        return value if size <= WORD else tuple(bits(value, at, BITS) for at in range(0, 8 * size, BITS))
+
+    def store(self, address, value, size, _unit=None):
+        words = [resized(word, BITS) for word in reversed(value)] if isinstance(value, tuple) else []
+        self.machine.store(self, z3.simplify(resized(address, BITS)),
+                           z3.simplify(z3.Concat(*words) if words else resized(value, 8 * size)))
+
+    def prefetch(self, address):
+        """A prefetch changes nothing."""
+
+    def set_flags(self, kind, operands, result):
+        found = CONDITIONS[kind](operands, result) if kind in CONDITIONS else None
+        self.flags = found and (lambda condition: condition_of(found, condition))
+
+    def compare_if(self, condition, kind, operands, flags):
+        """Compares if a condition holds, or else sets these flags."""
+        is_met, found = self.holds(condition), CONDITIONS[kind](operands, None)
+        self.flags = lambda name: z3.If(is_met, condition_of(found, name), condition_of(immediate(flags), name))
+
+    def holds(self, condition):
+        """Whether a condition holds, by the flags."""
+        if self.flags is None:
+            raise Fault('it branches on flags of which nothing is known')
+        return self.flags(condition)
+
+    def choose(self, condition, one, other, width):
+        return z3.If(self.holds(condition), resized(one, width), resized(other, width))
+
+    is_zero, resized, right = staticmethod(is_zero), staticmethod(resized), staticmethod(z3.LShR)
+
+    @staticmethod
+    def right_signed(value, count):
+        return value >> count
+
+    @staticmethod
+    def masked(one, other):
+        return one & other
+
+    @staticmethod
+    def known(value):
+        """A number."""
+        value = z3.simplify(value)
+        if not z3.is_bv_value(value):
+            raise Fault('it needs a number that is not known')
+        return value.as_long()
+
+    def product(self, one, other):
+        """Of two terms, nothing but their product's name is known."""
+        if any(isinstance(value, int) or z3.is_bv_value(z3.simplify(value)) for value in (one, other)):
+            return one * other
+        return self.unknown('product', *sorted((one, other), key=lambda value: value.get_id()))
+
+    @staticmethod
+    def unknown(name, *values):
+        """A function of which nothing is known."""
+        return z3.Function(f'{name}{values[0].size()}', *(value.sort() for value in values), values[0].sort())(*values)
+
+
+class Engine:
+    """Runs a file's functions. `run` is the class of a run: for a processor."""
+
+    def __init__(self, run, code, outside, effects=None):
+        self.run, self.code, self.outside, self.effects, self.solver = run, code, outside, effects or {}, z3.Solver()
         self.fresh_names, self.regions, self.terms, self.ranks, self.addresses = 0, {}, {}, {}, {}
         for begin, name in code.names.items():
             self.addresses.setdefault(name, begin)
@@ -200,9 +283,6 @@ class Processor:
         if z3.is_true(claim):
             return True
         return self.solver.check(z3.Not(claim)) == z3.unsat
-
-    def width(self, register):
-        return 2 * BITS if register in self.vectors else BITS
 
     # ---- memory
 
@@ -249,7 +329,7 @@ class Processor:
 
     def loaded(self, path, place, size):
         region, offset = place
-        if region and path.unknown & variables(self.terms[region]):
+        if region and path.unknown_bytes & variables(self.terms[region]):
             raise Fault(f'it reads what a call wrote to {self.terms[region]}')
         pieces = []  # (from the lowest on: a value, its first byte, and how many)
         for at in range(offset, offset + size):
@@ -306,20 +386,19 @@ class Processor:
         """Each path of a function to its end, with what it is passed: variables by the names of its parameters. What is
         proved meanwhile is proved for this path. `prepare` returns what is assumed."""
         kind, parameters = self.outside[name]
-        path = Run({register: z3.BitVec(f'first {register}', self.width(register))
-                    for register in (*self.saved, *self.others)})
-        path.registers[self.stack_pointer] = z3.BitVec(STACK, BITS)
+        path = self.run(self, self.run.fresh(lambda name: z3.BitVec(f'first {name}', BITS)))
+        path.registers[path.stack_pointer] = z3.BitVec(STACK, BITS)
         given = {parameter.name: z3.BitVec(parameter.name, BITS) for parameter in parameters}
-        hidden = [z3.BitVec('hidden', BITS)] if kind in SIZES else []
-        self.enter(path, list(given.values()), *hidden)
-        given.update(zip(['hidden'], hidden))
+        path.enter([*given.values()])
+        if kind in SIZES:
+            given['hidden'] = path.registers[path.hidden] = z3.BitVec('hidden', BITS)
         path.at, first = self.begin(name), dict(path.registers)
-        stack = path.registers[self.stack_pointer]
+        stack = path.registers[path.stack_pointer]
         with self.assumed([z3.ULT(LARGEST_FRAME, stack), z3.ULT(stack, -LARGEST_FRAME), *prepare(path, given)]):
             ends = 0
             for end in self.ends(path):
                 ends += 1
-                changed = [register for register in self.saved if not end.registers[register].eq(first[register])]
+                changed = [register for register in path.saved if not end.registers[register].eq(first[register])]
                 if changed:
                     raise Fault(f'it does not restore {", ".join(changed)}')
                 yield end, given
@@ -370,7 +449,7 @@ class Processor:
 
     def join(self, one, other):
         """Makes one path of two that met, if their memory differs in few bytes. Returns whether it did."""
-        _, lowest = self.place(one.registers[self.stack_pointer])
+        _, lowest = self.place(one.registers[one.stack_pointer])
         places = {place for place in {**one.memory, **other.memory}
                   if not (place[0] == STACK and place[1] < lowest - RED_ZONE) and self.differ(one, other, place)}
         if len(places) > MOST_JOINED:
@@ -378,13 +457,10 @@ class Processor:
         count = next((at for at, pair in enumerate(zip(one.conditions, other.conditions)) if not pair[0].eq(pair[1])),
                      min(len(one.conditions), len(other.conditions)))
         is_one, is_other = (z3.And(*path.conditions[count:]) for path in (one, other))
-
-        def either(first, second):
-            return first if first.eq(second) else z3.simplify(z3.If(is_one, first, second))
         for region, offset, size in runs(places):
-            self.put_at(one, (region, offset), either(*(self.loaded(path, (region, offset), size)
-                                                        for path in (one, other))))
-        one.registers = {name: either(value, other.registers[name]) for name, value in one.registers.items()}
+            self.put_at(one, (region, offset), either(is_one, *(self.loaded(path, (region, offset), size)
+                                                                for path in (one, other))))
+        one.registers = {name: either(is_one, value, other.registers[name]) for name, value in one.registers.items()}
         if one.flags is not other.flags:
             flags = one.flags, other.flags
             one.flags = None if None in flags else lambda condition: z3.If(is_one, *(of(condition) for of in flags))
@@ -403,7 +479,7 @@ class Processor:
         """Takes an instruction, or a call of an outside function. Returns where the path goes on."""
         name, _, is_elsewhere = self.code.names.get(path.at, '').partition('@')
         if name in self.outside and path.steps > 1:
-            path.at = self.number_of(self.return_address(path))
+            path.at = self.number_of(path.return_address())
             self.call(path, name)
             path.returns = path.returns[:-1]
             return [path]
@@ -414,10 +490,13 @@ class Processor:
             raise Fault(f'it calls {name or hex(path.at)}, of which nothing is known')
         text, size = self.code.instructions[path.at]
         path.after = path.at + size
-        condition, target = self.decode(text)(self, path) or (z3.BoolVal(False), number(0))
-        condition = z3.simplify(condition)
-        if z3.is_true(condition) or z3.is_false(condition):
-            path.at = self.number_of(target) if z3.is_true(condition) else path.after
+        try:
+            condition, target = path.decode(text)(path) or (False, None)
+        except (TypeError, ValueError, LookupError, AttributeError, z3.Z3Exception) as fault:
+            raise Fault(f'the instruction {text} is not known here: {fault}') from None
+        condition = condition if isinstance(condition, bool) else z3.simplify(condition)
+        if condition is True or condition is False or z3.is_true(condition) or z3.is_false(condition):
+            path.at = self.number_of(target) if condition else path.after
             return [path]
         other = path.fork()
         path.conditions.append(condition)
@@ -431,7 +510,7 @@ class Processor:
             return self.solver.check() != z3.unsat
 
     def number_of(self, target):
-        target = z3.simplify(target)
+        target = z3.simplify(resized(target, BITS))
         if z3.is_bv_value(target):
             return target.as_long()
         if target.eq(RETURN):
@@ -440,8 +519,8 @@ class Processor:
 
     def passed(self, path, count):
         """The arguments of a call, whose return address is not on the stack any more."""
-        found = [path.registers[name] for name in self.arguments[:count]]
-        return found + [self.load(path, path.registers[self.stack_pointer] + WORD * index, WORD)
+        found = [path.registers[name] for name in path.arguments[:count]]
+        return found + [path.load(path.registers[path.stack_pointer] + WORD * index, WORD)
                         for index in range(count - len(found))]
 
     def call(self, path, name):
@@ -457,19 +536,14 @@ class Processor:
         for parameter, size in sizes.items():
             if parameter.is_written and size is not None:
                 self.overwrite(path, call, parameter.name, size)
-        hidden = call.arguments['hidden'] = path.registers[self.hidden] if kind in SIZES else None
-        for register in self.others:
-            path.registers[register] = self.fresh(register, self.width(register))
-        path.registers[self.result] = call.result
+        hidden = call.arguments['hidden'] = path.registers[path.hidden] if kind in SIZES else None
+        preserved = *path.saved, path.stack_pointer
+        path.registers |= {name: value for name, value in path.fresh(self.fresh).items() if name not in preserved}
+        path.registers[path.result] = call.result
         if hidden is not None:
             call.left['result'] = self.fresh(name, 8 * SIZES[kind])
             self.put(path, hidden, call.left['result'])
-            path.registers[self.result] = hidden
+            path.registers[path.result] = hidden
         path.flags = None
         if name in self.effects:
             self.effects[name](self, path, call)
-
-
-def returned(machine, path):
-    path.returns = path.returns[:-1]
-    return ALWAYS, machine.return_address(path)

@@ -43,7 +43,7 @@ class Attacked:
 
     def __init__(self, code, function, begin):
         self.code, self.function, self.begin = code, function, begin
-        runs, faults = zip(*(function.run(code, begin, flag, code.kind.entries[0]) for flag in FLAGS))
+        runs, faults = zip(*(function.run(code, begin, flag, code.processor.entries[0]) for flag in FLAGS))
         assert not any(faults), f'it has a fault as it is: {faults}'
         self.met, self.constants, self.below = [machine.met for machine in runs], runs[0].constants, runs[0].below
         self.texts = {at: code.instructions[at][0] for at in sorted(set.union(*self.met))}
@@ -51,7 +51,7 @@ class Attacked:
 
     def runs(self, address):
         """Returns all runs; those that meet the change come first."""
-        cases = [(flag, entry) for entry in self.code.kind.entries for flag in FLAGS]
+        cases = [(flag, entry) for entry in self.code.processor.entries for flag in FLAGS]
         return sorted(cases, key=lambda case: address is not None and address not in self.met[case[0]])
 
     def judge(self, code, address, what):
@@ -66,7 +66,8 @@ class Attacked:
                 return
         self.same.append(what)
         for flag in FLAGS:
-            _, fault = self.function.run(code, self.begin, flag, code.kind.entries[0], lambda: random.getrandbits(BITS))
+            _, fault = self.function.run(code, self.begin, flag, code.processor.entries[0],
+                                         lambda: random.getrandbits(BITS))
             assert not fault, f'{what} does not compute the same: {fault}'
 
     def change(self, address, text):
@@ -151,7 +152,8 @@ def test_what_does_more_than_prefetch_is_found(text):
     (arm64.decode, 'umlal2\tv1.2d, v1.4s, v1.4s', 'umlal2\tv1.4s, v1.8h, v1.8h')])
 def test_forms_of_an_instruction_for_other_widths_are_rejected(decode, known, other):
     """An instruction for 64-bit words has forms for fewer or narrower words, which compute something else."""
-    machine = SimpleNamespace(registers={'mm1': (1,) * 8, 'd1': 1, 'h1': 1})
+    registers = {'mm1': (1,) * 8, 'd1': 1, 'h1': 1}
+    machine = SimpleNamespace(registers=registers, put=registers.__setitem__)
     decode(known)(machine)
     with pytest.raises(Fault):
         decode(other)(machine)

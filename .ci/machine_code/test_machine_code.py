@@ -53,8 +53,9 @@ def test_what_is_prefetched_is_the_next_reference(flag):
         for _ in range(PLACES):
             setting, r, s, index = drawn_place()
             column, size = s * setting.segment + index, len(setting.reference_set(r, s, index + 1, True))
-            machine, fault = function.run(code, begin, flag, code.kind.entries[0], lambda: random.getrandbits(BITS),
-                                          [size, column + (setting.columns << BITS // 2)])
+            machine, fault = function.run(
+                code, begin, flag, code.processor.entries[0], lambda: random.getrandbits(BITS),
+                [size, column + (setting.columns << BITS // 2)])
             *_, at = setting.reference(r, 0, s, index + 1, machine.word_at('next', 0))
             own, lines = ([('next', first + place) for place in range(0, BLOCK, LINE)]
                           for first in (0, BLOCK * (at - column)))

@@ -6,12 +6,14 @@ from typing import Callable
 
 import rfc7693
 import rfc9106
+from arm64 import Arm64
 from linked import AHEAD, Code
-from machine import WORD
+from machine import WORD, Machine, half_known
 from machines import machines
 from prefetched import builds_for_c, faults_of_prefetches
 from terms import Fault, variable
-from wasm import Module
+from wasm import Module, Wasm
+from x86 import X86
 
 
 def compressed_block(flag, prev, reference, old, _ahead=None):
@@ -45,7 +47,7 @@ class Function:
         """Runs over values, or else a variable for each word; returns the machine, and what is wrong or None. The words
         that it is passed may be numbers."""
         sizes = {name: WORD * size for name, size in self.regions.items()}
-        machine = code.kind(code, sizes, self.written, entry)
+        machine = ON_TERMS[code.processor](code, sizes, self.written, entry)
         regions = {name: [variable(f'{name}{index}') for index in range(size)] for name, size in self.regions.items()}
         words = [*map(variable, self.words)]
         if values:
@@ -55,12 +57,13 @@ class Function:
                               for name, region in regions.items() for at, word in enumerate(region)}
         words = numbers or words
         try:
-            machine.run(machine.enter(begin, *map(variable, regions), *words, flag=flag))
+            machine.enter([*map(variable, regions), *words, half_known(flag) if machine.arguments else flag])
+            machine.run(code.begin(begin))
             defined = self.definition(flag, *regions.values(), *([words] if words else []))
             return machine, machine.fault(defined, self.cleared)
         except (Fault, TypeError, ValueError, LookupError, AttributeError) as fault:
             # A changed instruction may have any operand; if it cannot run, it is wrong.
-            return machine, f'{fault} ({machine.after:#x})'
+            return machine, f'{machine.text}: {fault} ({machine.after:#x})'
 
 
 FUNCTIONS = (
@@ -71,8 +74,7 @@ FUNCTIONS = (
     Function('compress_f', {'h': 8, 'm': 16}, ('low', 'high'), 'h', compressed_state, 16,
              (f'i64.const {rfc7693.IV[4]}', 'i64.rotl'), 3))
 FLAGS = 0, 1
-
-
+ON_TERMS = {processor: type('OnTerms', (processor, Machine), {}) for processor in (X86, Arm64, Wasm)}
 # Instructions that do nothing, and need not run.
 IDLE = re.compile(r'local\[|end$|unreachable$|(data16 |cs )*nop|xchg +ax,ax|int3')
 
@@ -91,7 +93,7 @@ def builds_of(path):
 def faults_of_function(code, function, begin):
     """Returns what is wrong with a function, for both flags, wherever the stack begins, and which instructions were
     run."""
-    runs = [function.run(code, begin, flag, entry) for flag in FLAGS for entry in code.kind.entries]
+    runs = [function.run(code, begin, flag, entry) for flag in FLAGS for entry in code.processor.entries]
     met = set.union(*(machine.met for machine, _ in runs))
     faults, below = {fault for _, fault in runs if fault}, max(machine.below for machine, _ in runs)
     missed = [text for at, (text, _) in code.bodies[begin].items() if at not in met and not IDLE.match(text)]

@@ -12,17 +12,27 @@ they allocate, and to what nothing reads afterwards, and `overwrite_blocks` to w
 
 import re
 
+import arm64
+import x86
 import z3
 from headers import BITS, CODES, HALF, NUMBERS, PLACES, SIZES, TEXT, WORD, prototypes
 from linked import ARM64, X86
 from machines import machines
 from shared import TOP
-from symbolic import Run, Write, bits, is_zero, number, variables
-from symbolic_arm64 import Arm64
-from symbolic_x86 import X86 as X8664
+from symbolic import Engine, Run, Write, bits, is_zero, number, variables
 from terms import Fault
 
-PROCESSORS = {X86: X8664, ARM64: Arm64}
+
+class RunOnX86(x86.X86, Run):
+    """The C code uses no vectors but those of SSE."""
+    vectors, words = x86.VECTORS[:x86.OF_VEX], 2
+
+
+class RunOnArm64(arm64.Arm64, Run):
+    """The same code on ARM64."""
+
+
+RUNS = {X86: RunOnX86, ARM64: RunOnArm64}
 OPTIONS, JOB, SETTINGS = (SIZES[f'proved_argon2_{name}'] for name in ('options', 'job', 'settings'))
 LIMITS, NEW_SETTINGS, NEW_SALT_LEN = (
     PLACES['proved_argon2_options'][name] for name in ('limits', 'new_settings', 'new_salt_len'))
@@ -83,7 +93,7 @@ class End:
 
     def __init__(self, machine, path, given):
         self.machine, self.path, self.given, self.faults, self.may_succeed = machine, path, given, [], False
-        self.word = path.registers[machine.result]
+        self.word = path.registers[path.result]
         self.result = low(self.word)
 
     def claim(self, claim, fault):
@@ -97,7 +107,7 @@ class End:
 
     def at_first(self, address, size):
         """What was in memory when the function began."""
-        return self.machine.load(Run({}), address, size)
+        return self.machine.load(self.machine.run(self.machine, {}), address, size)
 
     def passes(self, call, names, **others):
         """Whether a call is passed these arguments of the function, and others as given."""
@@ -272,7 +282,7 @@ def any_of(values, word):
 
 def return_target(machine, path, call):
     """memset returns where it writes."""
-    path.registers[machine.result] = call.to
+    path.registers[path.result] = call.to
 
 
 def see_state(machine, path, call):
@@ -534,7 +544,7 @@ def table_faults(code, name):
     """What is wrong with a call of the table."""
     builds, called = builds_of(code), f'proved_argon2_{name}'
     outside = {inner: PROVED[called] for inner in builds if inner.endswith(f'_{name}')}
-    machine = PROCESSORS[code.number](code, {**outside, **CHOICE, called: PROVED[called]})
+    machine = Engine(RUNS[code.number], code, {**outside, **CHOICE, called: PROVED[called]})
     return faults_of_table(machine, called, builds)
 
 
@@ -542,13 +552,13 @@ def driver_of(code):
     """What is shown of the driver's inner function."""
     outside = {name: what for name, what in PROVED.items() if name != 'proved_argon2_memory_free'}
     effects = {**KNOWN, 'fill': see_state}
-    return Driver(PROCESSORS[code.number](code, {**outside, **SYSTEM, **INNER, **DRIVER}, effects))
+    return Driver(Engine(RUNS[code.number], code, {**outside, **SYSTEM, **INNER, **DRIVER}, effects))
 
 
 def call_faults(code, driver, name):
     """What is wrong with a call that hashes or verifies."""
     effects = {**KNOWN, **dict.fromkeys(DRIVER, driver.effect), 'proved_argon2_password_verify_with': see_limits}
-    machine, faults, may_succeed = PROCESSORS[code.number](code, {**PROVED, **SYSTEM, **DRIVER}, effects), [], False
+    machine, faults, may_succeed = Engine(RUNS[code.number], code, {**PROVED, **SYSTEM, **DRIVER}, effects), [], False
     for path, given in machine.paths(f'proved_argon2_{name}', lambda *what: bounded(machine, *what)):
         end = End(machine, path, given)
         STATEMENTS[name](end)

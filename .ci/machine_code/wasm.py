@@ -5,7 +5,7 @@ import re
 from itertools import pairwise
 
 from linked import AHEAD, require, run
-from machine import RETURN, Machine, add, known, left, right
+from machine import RETURN, WORD, Machine, add, known, left, right
 from rfc9106 import MASK, rotated
 from terms import BITS, Fault, variable
 
@@ -25,7 +25,7 @@ class Module:
     clears = ()
 
     def __init__(self, path):
-        self.kind, self.path, self.content = Wasm, path, path.read_bytes()
+        self.processor, self.path, self.content = Wasm, path, path.read_bytes()
         lines = run(require('wasm-objdump'), '-x', '-d', path).split('\n')
         self.exports = '\n'.join(line for line in lines if ' -> "' in line)
         counts = {found[1]: len(found[2].split()) for found in map(TYPE.fullmatch, lines) if found}
@@ -44,7 +44,7 @@ class Module:
 
     def at(self, address):
         text, size, to = self.instructions[address]
-        return decode(text, to), size
+        return text, size, decode(text, to)
 
     @staticmethod
     def place(address):
@@ -55,6 +55,10 @@ class Module:
     def constant(address):
         """Neither function has constants in memory."""
         raise Fault(f'it reads at {address:#x}')
+
+    def begin(self, number):
+        """Returns the first instruction of a function."""
+        return next(at for at, (text, _) in self.bodies[number].items() if not text.startswith('local['))
 
     def traps(self, address):
         """Returns whether a jump leads to nothing but a trap."""
@@ -108,36 +112,31 @@ def led(body):
         yield at, (text, size, RETURN if at == last else targets.get(jumps.get(at)))
 
 
-class Wasm(Machine):
-    """The stack pointer is the only global that a function may use. In a memory of 32 bits, addresses are below 2^32,
-    so cutting them to 32 bits changes nothing."""
-    stack_pointer, entries = STACK_POINTER, (0, 16, 32, 48)
-
-    def __init__(self, code, regions, written, entry):
-        super().__init__(code, regions, written, entry)
-        self.local, self.operands, self.frames = {}, [], []
+class Wasm:
+    """The stack pointer is the only global that a function may use, and arguments are not in registers. In a memory of
+    32 bits, addresses are below 2^32, so cutting them to 32 bits changes nothing."""
+    arguments, stack_pointer, saved, entries, own_of_caller = (), STACK_POINTER, (), (0, 16, 32, 48), 0
+    local, operands = {}, []
 
     @staticmethod
-    def fresh(when):
+    def fresh(_word):
         return {}
 
-    def enter(self, number, *arguments, flag=None):
-        """Begins a function, which is passed the flag last."""
-        self.frames.append((self.local, self.operands, self.after))
-        passed = (*arguments, *([] if flag is None else [flag]))
-        self.local, self.operands = {str(index): word for index, word in enumerate(passed)}, []
-        return next(at for at, (text, _) in self.code.bodies[number].items() if not text.startswith('local['))
+    def enter(self, arguments):
+        """Begins a function."""
+        self.returns += (self.local, self.operands, self.after),
+        self.local, self.operands = {str(index): word for index, word in enumerate(arguments)}, []
 
     def leave(self):
-        self.local, self.operands, back = self.frames.pop()
-        return back if self.frames else RETURN
+        *self.returns, (self.local, self.operands, back) = self.returns
+        return True, back if self.returns else RETURN
 
     def pop(self):
         if not self.operands:
             raise Fault('it has no operand')
         return self.operands.pop()
 
-    def step(self, name, words):
+    def take(self, name, words):
         """Returns what an instruction that does not jump leaves on the stack, if anything."""
         if name.partition('.')[0] in ('local', 'global'):
             return self.move(name, words[0])
@@ -178,15 +177,14 @@ class Wasm(Machine):
         return NO_STACK
 
     def compared(self, other, one, condition):
-        self.compare(one, other)
+        self.set_flags('difference', (one, other), None)
         return int(self.holds(condition))
 
     def jump(self, to):
-        """Returns where it jumps, or None. It would jump to a trap if the stack had no room."""
+        """Returns whether it jumps, and where. It would jump to a trap if the stack had no room."""
         chooses = self.pop()
-        if chooses is NO_STACK and self.code.traps(to):
-            return None
-        return to if known(chooses, 'it chooses by data') else None
+        is_trap = chooses is NO_STACK and self.code.traps(to)
+        return not is_trap and known(chooses, 'it chooses by data'), to
 
 
 # An instruction takes this many operands off the stack, and makes this of its offset, if any, and of them.
@@ -203,8 +201,8 @@ OPERATIONS = {
     'i32.ne': (2, lambda machine, x, y: machine.compared(y, x, 'ne')),
     **dict.fromkeys(('i64.eqz', 'i32.eqz'), (1, lambda machine, x: machine.compared(0, x, 'e'))),
     'i32.wrap_i64': (1, Wasm.cut),
-    'i64.load': (1, lambda machine, address, offset: machine.load(add(address, offset), 1)[0]),
-    'i64.store': (2, lambda machine, address, word, offset: machine.store(add(address, offset), [word])),
+    'i64.load': (1, lambda machine, address, offset: machine.load(add(address, offset), WORD)),
+    'i64.store': (2, lambda machine, address, word, offset: machine.store(add(address, offset), word, WORD)),
     'memory.fill': (3, Machine.clear),
     'drop': (0, lambda _: None),  # (of a call's result, which `leave` does not keep)
     'select': (3, lambda _, one, other, chooses: one if known(chooses, 'it chooses by data') else other)}
@@ -213,7 +211,8 @@ OPERATIONS = {
 def call(number):
     def step(machine):
         arguments = [machine.pop() for _ in range(machine.code.arguments[number])]
-        return machine.enter(number, *arguments[::-1])
+        machine.enter(arguments[::-1])
+        return True, machine.code.begin(number)
     return step
 
 
@@ -226,10 +225,10 @@ def decode(text, to):
     if name == 'call':
         return call(words[0])
     if name in ('br', 'br_if') and to:
-        return (lambda machine: to) if name == 'br' else lambda machine: machine.jump(to)
+        return (lambda machine: (True, to)) if name == 'br' else lambda machine: machine.jump(to)
 
     def step(machine):
-        left_over = machine.step(name, words)
+        left_over = machine.take(name, words)
         if left_over is not None:
             machine.operands.append(left_over)
     return step

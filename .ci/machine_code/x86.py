@@ -5,109 +5,118 @@ import functools
 import re
 from itertools import chain
 
-from machine import (CONDITIONS, RETURN, WORD, Machine, add, computed, each, half_known, jump_if, known, left, parts,
-                     picked_if, register, right)
+from machine import WORD, add, each, right
+from operands import (Operand, call, computed, computed_by, constant, idle, jump, jump_if, parts, register, returned,
+                      with_flags)
 from rfc9106 import MASK, rotated
-from terms import BITS, Fault, picked, variable
+from terms import BITS, Fault, picked
 
 OLD = 'ax', 'bx', 'cx', 'dx', 'si', 'di', 'bp', 'sp'
-# The registers for integers, the names of their lower halves and of some lowest bytes; those for vectors, how many of
-# them are older than AVX-512, and how many words one has; and sizes in words.
+# The registers for integers, and for each name the register, the part's lowest bit and its width; those for vectors,
+# how many of them are older than AVX-512, and how many words one has; and sizes in bytes.
 WHOLE = [f'r{name}' for name in (*OLD, *range(8, 16))]
-LOWER = dict(zip([*(f'e{name}' for name in OLD), *(f'r{number}d' for number in range(8, 16))], WHOLE))
-LOWEST = dict(zip(('al', 'bl', 'cl', 'dl', 'sil', 'dil'), WHOLE))
+NAMES = {**{f'{letter}{name}': (f'r{name}', 0, width) for name in OLD
+            for letter, width in (('r', 64), ('e', 32), ('', 16))},
+         **{f'{name[0] if name[1] == "x" else name}l': (f'r{name}', 0, 8) for name in OLD},
+         **{f'{name[0]}h': (f'r{name}', 8, 8) for name in OLD[:4]},
+         **{f'r{number}{letter}': (f'r{number}', 0, width) for number in range(8, 16)
+            for letter, width in (('', 64), ('d', 32), ('w', 16), ('b', 8))}}
 VECTORS, OF_VEX, WIDEST = [f'mm{number}' for number in range(32)], 16, 8
-SIZES = {'x': 2, 'y': 4, 'z': 8, 'QWORD': 1, 'XMMWORD': 2, 'YMMWORD': 4, 'ZMMWORD': 8}
-PLACE = re.compile(r'(?:(\w+) PTR )?\[(\w+)(?:\+(\w+)\*(\d))?([+-]0x[0-9a-f]+)?\]')
-LOW, NAMES_OF_LOW = (1 << 32) - 1, {'mov', 'add', 'sub', 'xor', 'cmp', 'test'}
+SIZES = {'x': 16, 'y': 32, 'z': 64, 'BYTE': 1, 'WORD': 2, 'DWORD': 4, 'QWORD': 8, 'XMMWORD': 16, 'YMMWORD': 32,
+         'ZMMWORD': 64}
+PLACE = re.compile(r'(?:(\w+) PTR )?\[(?:([a-z]\w*)(?=[+\-\]]))?(?:\+?(\w+)\*(\d))?([+-]0x[0-9a-f]+)?\]')
+# The registers of floating-point numbers are only cleared.
+IDLE = re.compile(r'(data16 |cs )*nop.*|endbr64|xchg +ax,ax|fldz|fstp +st\(0\)')
+LOW = (1 << 32) - 1
 
 
-class X86(Machine):
-    arguments, stack_pointer, own_of_caller = ('rdi', 'rsi', 'rdx', 'rcx', 'r8', 'r9'), 'rsp', WORD
-    saved, entries = ('rbx', 'rbp', 'r12', 'r13', 'r14', 'r15'), (8, 24, 40, 56)
+class X86:
+    """A run's registers. At the start of a function, the stack pointer may be as many bytes as `entries` says above
+    a multiple of the largest alignment; the function owns some bytes of its caller's stack."""
+    arguments, result, hidden, stack_pointer = ('rdi', 'rsi', 'rdx', 'rcx', 'r8', 'r9'), 'rax', 'rdi', 'rsp'
+    saved, entries, own_of_caller = ('rbx', 'rbp', 'r12', 'r13', 'r14', 'r15'), (8, 24, 40, 56), WORD
+    vectors, words = VECTORS, WIDEST
 
     @staticmethod
-    def fresh(when):
-        return {name: variable(f'{when} {name}') for name in WHOLE} | \
-            {name: tuple(variable(f'{when} {name} {at}') for at in range(WIDEST)) for name in VECTORS}
+    def decode(text):
+        return decode(text)
 
-    def enter(self, address, *arguments, flag):
-        """Begins a function, which is passed the flag as 32 bits."""
-        self.push(RETURN)
-        self.registers.update(zip(self.arguments, (*arguments, half_known(flag))))
-        return address
+    @classmethod
+    def fresh(cls, word):
+        """Returns registers whose words are made by name."""
+        return {name: word(name) for name in WHOLE} | \
+            {name: tuple(word(f'{name} {at}') for at in range(cls.words)) for name in cls.vectors}
+
+    def enter(self, values):
+        """Begins a function."""
+        self.registers.update(zip(self.arguments, values))
+        for index, value in enumerate([self.back, *values[len(self.arguments):]]):
+            self.store(self.registers['rsp'] + WORD * index, value, WORD)
 
     def push(self, word):
-        if word is not RETURN:
-            self.registers['rsp'] -= WORD
-        self.store(self.registers['rsp'], [word])
+        self.put('rsp', self.registers['rsp'] - WORD)
+        self.store(self.registers['rsp'], word, WORD)
 
     def pop(self):
-        word, = self.load(self.registers['rsp'], 1)
-        self.registers['rsp'] += WORD
+        word = self.load(self.registers['rsp'], WORD)
+        self.put('rsp', self.registers['rsp'] + WORD)
         return word
 
     return_address = pop
 
-    def fault(self, words, cleared):
-        """Returns what is wrong. It is also wrong if words of blocks stay in a vector, except in the halves that the
-        driver clears. memset leaves no such words there."""
-        known = self.fresh('left')
-        stay = [name for at, name in enumerate(VECTORS) if not all(
+    def left_behind(self):
+        """Returns the vectors in which words of blocks stay, except in the halves that the driver clears. memset leaves
+        no such words there."""
+        cleared = self.named('left')
+        return [name for at, name in enumerate(VECTORS) if not all(
             word in (0, before, left) for word, before, left in [
-                *zip(self.registers[name], self.before[name], known[name])][2 if at < OF_VEX else 0:])]
-        return super().fault(words, cleared) or (f'it leaves words in {", ".join(stay)}' if stay else None)
+                *zip(self.registers[name], self.before[name], cleared[name])][2 if at < OF_VEX else 0:])]
 
 
 def vector(name, size, keeps_rest):
-    def write(machine, words):
+    """The lowest words of a vector. A write keeps the rest or clears it."""
+    def write(run, words):
         if len(words) != size:
             raise Fault(f'it makes {len(words)} words for {size} of {name}')
-        machine.registers[name] = (*words, *(machine.registers[name][size:] if keeps_rest else (0,) * (WIDEST - size)))
-    return (lambda machine: machine.registers[name][:size]), write
+        run.registers[name] = (*words, *(run.registers[name][size:] if keeps_rest else (0,) * (WIDEST - size)))
+    return Operand(lambda run: run.registers[name][:size], write, BITS * size)
 
 
-def lowest_byte(name):
-    """Returns what writes the lowest byte of a number, whose other bits stay."""
-    def write(machine, byte):
-        machine.registers[name] = known(machine.registers[name], 'it writes a part of data') & ~0xff | byte
-    return write
-
-
-def address(base, index, scale, offset):
-    """Returns what reads the address of a place in memory."""
+def address(text):
+    """Returns the size of a place in memory, and what computes its address."""
+    found = PLACE.fullmatch(text)
+    if not found or {*found.group(2, 3)} - {None, 'rip', *WHOLE}:
+        raise Fault(f'the address {text} is not known')
+    size, base, index, scale, offset = found.groups()
     offset = int(offset or '0', 16)
-    if {base, index} - {None, 'rip', *WHOLE}:
-        raise Fault(f'the address over {base} and {index} is not known')
-    return lambda machine: (machine.after if base == 'rip' else machine.registers[base]) + offset + (
-        machine.registers[index] * int(scale) if index else 0) & MASK
+
+    def at(run):
+        begin = run.after if base == 'rip' else run.registers[base] if base else 0
+        return begin + offset + (run.registers[index] * int(scale) if index else 0) & MASK
+    return size, at
 
 
 def memory(size, unit, at):
-    def write(machine, words):
-        machine.store(at(machine), [words] if size == 1 else words, unit)
-    return (lambda machine: machine.load(at(machine), size, unit)[0 if size == 1 else slice(None)]), write
+    return Operand(lambda run: run.load(at(run), size, unit), lambda run, value: run.store(at(run), value, size, unit),
+                   8 * size)
 
 
 def operand(text, mnemonic):
-    """Returns what reads an operand, and what writes it."""
-    if text in WHOLE or text in LOWER and mnemonic in NAMES_OF_LOW:
-        return register(LOWER.get(text, text), LOW if text in LOWER else MASK)
-    if text in LOWEST and mnemonic.startswith('set'):
-        return None, lowest_byte(LOWEST[text])
+    """Returns a register or its part, a number, or a place in memory; for lea, the address of that place."""
+    if text in NAMES:
+        return register(*NAMES[text])
     if text[1:] in VECTORS and text[0] in SIZES:
-        return vector(text[1:], SIZES[text[0]], not mnemonic.startswith('v'))
-    if re.fullmatch(r'0x[0-9a-f]+|\d', text):
-        return (lambda machine: int(text, 0)), None
-    found = PLACE.fullmatch(text)
-    if not found or mnemonic != 'lea' and found[1] not in SIZES:
-        raise Fault(f'the operand {text} of {mnemonic} is not known')
-    at = address(*found.groups()[1:])
+        return vector(text[1:], SIZES[text[0]] // WORD, not mnemonic.startswith('v'))
+    if re.fullmatch(r'0x[0-9a-f]+|\d+', text):
+        return constant(int(text, 0))
+    name, at = address(text)
     if mnemonic == 'lea':
-        return at, None
-    size, is_new = SIZES[found[1]], mnemonic.startswith('v')
-    is_aligned = size > 1 and mnemonic[is_new:] not in UNALIGNED and not (is_new and mnemonic[1:] not in MOVES)
-    return memory(size, WORD * size if is_aligned else WORD, at)
+        return Operand(at)
+    if name not in SIZES:
+        raise Fault(f'the operand {text} of {mnemonic} is not known')
+    size, is_new = SIZES[name], mnemonic.startswith('v')
+    is_aligned = size > WORD and mnemonic[is_new:] not in UNALIGNED and not (is_new and mnemonic[1:] not in MOVES)
+    return memory(size, size if is_aligned else WORD, at)
 
 
 def by_lanes(function):
@@ -127,12 +136,6 @@ def places(words, width, count):
     if len(found) < len(words) * BITS // width or {place // count for place in found} not in ({0}, {1}):
         raise Fault('it shuffles by other than places')
     return tuple(place % count for place in found)
-
-
-def below_size(count):
-    if not 0 < count < BITS:
-        raise Fault(f'it shifts by {count} bits')
-    return count
 
 
 def four_of(order):
@@ -185,96 +188,142 @@ FROM = {
     'vprolq': each(lambda word, count: rotated(word, -count % BITS)),
     'vpermd': lambda order, words: picked(words, places(order, 32, 2 * len(words)), 32)}
 VECTOR = FROM | ONTO | {f'v{name}': function for name, function in (FROM | ONTO).items() if name[0] != 'v'}
-PLAIN = {**dict.fromkeys(('mov', 'movabs', 'lea'), lambda x: x), 'rorx': lambda x, count: rotated(x, below_size(count)),
+# Those that move a word, and those that are passed the run's engine; the latter say by what the flags are set.
+PLAIN = {**dict.fromkeys(('mov', 'movabs', 'movzx', 'lea'), lambda x: x), 'movq': lambda words: words[0],
          'vpextrq': lambda words, place: words[place]}
-WITH_FLAGS = {
-    'add': add, 'sub': lambda x, y: x - y & MASK, 'xor': lambda x, y: x ^ y, 'imul': lambda x, y: x * y & MASK,
-    'shl': lambda x, count: left(x, below_size(count)), 'shr': lambda x, count: right(x, below_size(count)),
-    'shld': lambda x, y, count: left(x, below_size(count)) | right(y, BITS - count)}
-
-
-def without_flags(step):
-    """Returns a step after which nothing is known of the flags."""
-    def done(machine):
-        step(machine)
-        machine.flags = None
-    return done
-
-
-def call(to):
-    def step(machine):
-        machine.push(machine.after)
-        return to(machine)
-    return step
-
-
-def leave(machine):
-    machine.registers['rsp'] = machine.registers['rbp']
-    machine.registers['rbp'] = machine.pop()
+SHIFTS = 'shl', 'shr', 'rorx', 'shld'
+ARITHMETIC = {
+    'add': (lambda run, x, y: x + y, 'sum'), 'sub': (lambda run, x, y: x - y, 'difference'),
+    'xor': (lambda run, x, y: x ^ y, 'bits'), 'or': (lambda run, x, y: x | y, 'bits'),
+    'and': (lambda run, x, y: run.masked(x, y), 'bits'), 'imul': (lambda run, x, y: run.product(x, y), 'product'),
+    'shl': (lambda run, x, count: x << count, 'shift'), 'shr': (lambda run, x, count: run.right(x, count), 'shift'),
+    'shld': (lambda run, x, y, count: x << count | run.right(y, BITS - count), 'shift')}
+TESTED = {'cmp': ARITHMETIC['sub'], 'test': ARITHMETIC['and']}
 
 
 def prefetch(text):
-    """Takes note of an address, which may be computed from data."""
-    found = PLACE.fullmatch(text)
-    if not found:
-        raise Fault(f'the operand {text} of a prefetch is not known')
-    at = address(*found.groups()[1:])
-    return lambda machine: machine.prefetched.append(at(machine))
+    _, at = address(text)
+    return lambda run: run.prefetch(at(run))
 
 
-def clear_upper(machine):
-    machine.registers |= {name: (*machine.registers[name][:2], *(0,) * (WIDEST - 2)) for name in VECTORS[:OF_VEX]}
+def leave(run):
+    run.registers['rsp'] = run.registers['rbp']
+    run.registers['rbp'] = run.pop()
 
 
-def control(mnemonic, sources, target):
+def clear_upper(run):
+    run.registers |= {name: (*run.registers[name][:2], *(0,) * (WIDEST - 2)) for name in VECTORS[:OF_VEX]}
+
+
+def divide(divisor):
+    """Returns the step that divides a number of two words by one; only one whose upper word is zero."""
+    def step(run):
+        by, width = divisor.read(run), divisor.width
+        if run.known(run.part('rdx', 0, width)):
+            raise Fault('it divides more than a word')
+        low = run.part('rax', 0, width)
+        for name, what in (('rax', 'quotient'), ('rdx', 'remainder')):
+            run.put(name, run.unknown(what, low, by), 0, width)
+        run.set_flags('', (), None)
+    return step
+
+
+def subtract_borrow(one, other):
+    """Returns the step of sbb, whose borrow is known from a comparison."""
+    def step(run):
+        one.write(run, one.read(run) - other.read(run) - run.choose('b', 1, 0, one.width))
+        run.set_flags('', (), None)
+    return step
+
+
+def store_words(run):
+    """Fills a known number of words."""
+    for _ in range(run.known(run.registers['rcx'])):
+        run.store(run.registers['rdi'], run.registers['rax'], WORD)
+        run.put('rdi', run.registers['rdi'] + WORD)
+    run.put('rcx', 0)
+
+
+def exchange(one, other):
+    """Returns the step that exchanges two words."""
+    def step(run):
+        word = one.read(run)
+        one.write(run, other.read(run))
+        other.write(run, word)
+    return step
+
+
+def choose(condition, operands):
+    """Returns the step of setcc or cmovcc."""
+    target, width = operands[0], operands[0].width
+    reads = [source.read for source in operands[::-1]] if len(operands) > 1 else [lambda run: 1, lambda run: 0]
+    return lambda run: target.write(run, run.choose(condition, *(read(run) for read in reads), width))
+
+
+def special(mnemonic, operands):
     """Decodes instructions with special operands, or none."""
-    match mnemonic, len(sources):
-        case 'cmp', 2:
-            return lambda machine: machine.compare(*(source(machine) for source in sources))
-        case 'test', 2:
-            return lambda machine: machine.compare(sources[0](machine) & sources[1](machine), 0)
-        case 'and', 2:
-            return without_flags(
-                lambda machine: target(machine, machine.masked(*(source(machine) for source in sources))))
+    match mnemonic, len(operands):
         case 'push', 1:
-            return lambda machine: machine.push(sources[0](machine))
+            return lambda run: run.push(operands[0].read(run))
         case 'pop', 1:
-            return lambda machine: target(machine, machine.pop())
+            return lambda run: operands[0].write(run, run.pop())
         case 'call', 1:
-            return call(sources[0])
+            return call(X86.push, operands[0])
         case 'jmp', 1:
-            return sources[0]
+            return jump(operands[0])
         case 'ret', 0:
-            return X86.pop
-        case 'vzeroupper', 0:
-            return clear_upper
+            return returned
         case 'leave', 0:
             return leave
-    if mnemonic[:1] == 'j' and mnemonic[1:] in CONDITIONS:
-        return jump_if(mnemonic[1:], sources[0])
-    if mnemonic[:3] == 'set' and mnemonic[3:] in CONDITIONS:
-        return lambda machine: target(machine, int(machine.holds(mnemonic[3:])))
-    if mnemonic[:4] == 'cmov' and mnemonic[4:] in CONDITIONS:
-        return picked_if(mnemonic[4:], sources[1], target)
-    raise Fault(f'the instruction {mnemonic} of {len(sources)} operands is not known')
+        case 'vzeroupper', 0:
+            return clear_upper
+        case 'xchg', 2:
+            return exchange(*operands)
+        case 'neg', 1:
+            return with_flags(lambda run, x: 0 - x, 'negation', operands, operands[0])
+        case 'div', 1:
+            return divide(operands[0])
+        case 'sbb', 2:
+            return subtract_borrow(*operands)
+    if mnemonic[:1] == 'j' and len(operands) == 1:
+        return jump_if(mnemonic[1:], operands[0])
+    if mnemonic[:3] == 'set' and len(operands) == 1:
+        return choose(mnemonic[3:], operands)
+    if mnemonic[:4] == 'cmov' and len(operands) == 2:
+        return choose(mnemonic[4:], operands)
+    raise Fault(f'the instruction {mnemonic} of {len(operands)} operands is not known')
+
+
+def check_shift(mnemonic, operands):
+    """A shift is known by a number of bits that is not 0 and below the width. Some are known for whole words only."""
+    if not 0 < (operands[-1].number or 0) < operands[0].width or operands[0].width < BITS and mnemonic in SHIFTS[2:]:
+        raise Fault(f'{mnemonic} does not shift a word by a number')
 
 
 @functools.cache
 def decode(text):
     """Decodes an instruction: returns the step that it takes."""
     mnemonic, _, rest = text.partition(' ')
-    if re.match('(data16 |cs )*(nop|endbr64)', text):
-        return lambda machine: None
+    if IDLE.fullmatch(text):
+        return idle
     if mnemonic == 'prefetcht0':
-        return prefetch(rest)
+        return prefetch(rest.strip())
+    if text.startswith('rep stos QWORD'):
+        return store_words
     words = parts(rest)
     operands = [operand(word, mnemonic) for word in words]
-    sources, target = [read for read, _ in operands], operands[0][1] if operands else None
-    if mnemonic in VECTOR and any(word[1:] in VECTORS
-                                  for word in (words if mnemonic.strip('v') in MOVES else words[:1])):
-        return computed(VECTOR[mnemonic], sources if mnemonic in ONTO else sources[1:], target)
-    if mnemonic in PLAIN and len(sources) > 1:
-        return computed(PLAIN[mnemonic], sources[1:], target)
-    if mnemonic in WITH_FLAGS and len(sources) > 1:
-        return without_flags(computed(WITH_FLAGS[mnemonic], sources, target))
-    return control(mnemonic, sources, target)
+    is_in_vector = [word[1:] in VECTORS for word in words]
+    if mnemonic in VECTOR and any(is_in_vector if mnemonic.strip('v') in MOVES else is_in_vector[:1]):
+        return computed(VECTOR[mnemonic], operands if mnemonic in ONTO else operands[1:], operands[0])
+    if mnemonic in SHIFTS and len(operands) > 1:
+        check_shift(mnemonic, operands)
+    if mnemonic == 'rorx':
+        return computed_by(lambda run, x, count: run.rotated(x, count), operands[1:], operands[0])
+    if mnemonic in PLAIN and len(operands) > 1:
+        return computed(PLAIN[mnemonic], operands[1:], operands[0])
+    if mnemonic in ARITHMETIC and len(operands) > 1:
+        function, kind = ARITHMETIC[mnemonic]
+        return with_flags(function, kind, operands if mnemonic == 'shld' else operands[-2:], operands[0])
+    if mnemonic in TESTED:
+        return with_flags(*TESTED[mnemonic], operands)
+    return special(mnemonic, operands)
