@@ -40,7 +40,7 @@ func TestMemoryDoesNotGrow(t *testing.T) {
 			must(HashRaw(password, password, small()))
 			must(NewHasher(small(), mostBuffers, 0)) // (16 KiB for the places of its buffers)
 			if i%200 == 0 {
-				runtime.GC()
+				settle() // (otherwise a busy machine frees thousands later, and the heap of C keeps their memory)
 				other := must(NewHasher(small(), 1, 0))
 				must(other.Hash(ctx, password))
 				must(other.With(larger).Hash(ctx, password))
