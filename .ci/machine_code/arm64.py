@@ -11,10 +11,11 @@ from terms import BITS, Fault, picked
 
 NUMBER = re.compile(r'#?(-?0x[0-9a-f]+|-?\d+)')
 REGISTER = re.compile(r'([xw])(\d+)|([qdsb])(\d+)|v(\d+)\.(?:2d|4s|2s|16b)|([xw]zr)|(sp)')
+# How many bits a register has, by the first letter of its name.
 WIDTHS = {'x': 64, 'w': 32, 'd': 64, 's': 32, 'b': 8}
 PLACE = re.compile(r'\[(x\d+|sp)(?:, (?:#(-?\d+)|(x\d+)(?:, lsl #(\d+))?))?\](!?)')
 LOW, PART, IDLE = (1 << 32) - 1, 16, ('nop', 'bti', 'hint')
-# The names of the conditions that both processors have.
+# ARM64's names of conditions, and x86-64's, which both engines use.
 CONDITIONS = {'eq': 'e', 'ne': 'ne', 'cc': 'b', 'cs': 'ae', 'hi': 'a', 'ls': 'be', 'lt': 'l', 'ge': 'ge', 'gt': 'g',
               'le': 'le', 'mi': 's', 'pl': 'ns'}
 
@@ -126,7 +127,7 @@ ONTO = {
     'sri 2d 2d': inserted, 'usra 2d 2d': lambda words, shifted, count: each(add)(words, each(right)(shifted, count)),
     'umlal 2d 2s 2s': lambda words, one, other: each(add)(words, halves_multiplied(one[0], other[0])),
     'umlal2 2d 4s 4s': lambda words, one, other: each(add)(words, halves_multiplied(one[1], other[1]))}
-# These are passed the run's engine.
+# The first argument of these functions is the run, since what they compute depends on the engine.
 GENERAL = {
     'add': lambda run, x, y: x + y, 'sub': lambda run, x, y: x - y, 'eor': lambda run, x, y: x ^ y,
     'and': lambda run, x, y: run.masked(x, y), 'orr': lambda run, x, y: x | y, 'neg': lambda run, x: 0 - x,
@@ -136,10 +137,10 @@ GENERAL = {
     'udiv': lambda run, x, y: run.unknown('quotient', x, y),
     'ubfx': lambda run, x, low, width: run.right(x, low) & (1 << width) - 1,
     'ubfiz': lambda run, x, low, width: (x & (1 << width) - 1) << low}
-# By what these set the flags, and what they compute for it.
+# These only set the flags: what they compute, and in which way the result sets the flags.
 TESTED = {'cmp': (GENERAL['sub'], 'difference'), 'cmn': (GENERAL['add'], 'sum with inverted carry'),
           'tst': (GENERAL['and'], 'shift')}
-# The two words of which a condition chooses.
+# These write one of two words: the first if a condition holds, or else the second.
 CHOSEN = {'csel': lambda x, y: (x, y), 'csinc': lambda x, y: (x, y + 1), 'cset': lambda: (1, 0),
           'cinv': lambda x: (x ^ MASK, x)}
 
@@ -196,7 +197,7 @@ def in_part(name, width, value, low):
 
 
 def choose(function, words):
-    """csel and its kin."""
+    """csel, csinc, cset and cinv, which choose one of two words."""
     target, condition = operand(words[0]), CONDITIONS.get(words[-1])
     sources = [operand(word) for word in words[1:-1]]
     return lambda run: target.write(run, run.choose(

@@ -181,7 +181,7 @@ class Machine:
         self.prefetched.append(address)
 
     def left_behind(self):
-        """Returns the vectors in which words of blocks must not stay, and do."""
+        """Returns the names of vectors in which a function has left words of blocks."""
         return []
 
     def fault(self, words, cleared):

@@ -11,7 +11,7 @@ from terms import BITS, MASK
 
 @dataclass(frozen=True)
 class Operand:
-    """What reads an operand in a run, what writes it, its width in bits, and its value if it is a number."""
+    """An operand: functions that read and write it in a run, its width in bits, and its value if it is a number."""
     read: Callable
     write: Callable = None
     width: int = BITS
