@@ -2,13 +2,19 @@
 tests also plant faults in the C code, one at a time, and link it: each has to be found by name."""
 
 import functools
+import itertools
+import operator
 import subprocess
+from types import SimpleNamespace
 
 import pytest
-from linked import Code
+import z3
+from linked import ARM64, X86, Code
 from machines import machines
 from shared import TOP, ready
-from verdict import driver_of, faults_of_verdicts
+from symbolic import Engine
+from terms import BITS, MASK
+from verdict import RUNS, driver_of, faults_of_verdicts
 
 pytestmark = pytest.mark.timeout(900)  # A loop whose rounds are followed one by one would take hours.
 MACHINES, SOURCES = ('x86_64', 'aarch64'), TOP / 'bindings/c/src'
@@ -147,3 +153,24 @@ def test_a_fault_is_found(tmp_path, machine, what):
     code, function = linked_with(tmp_path, machine, name, old, new), fault.partition(':')[0]
     faults = faults_of_verdicts(code, [function], None if name == 'driver' else driver_without_faults(machine))
     assert any(found.startswith(fault) for found in faults), faults
+
+
+# Jumps of both processors, and what each finds of two numbers: of those without a sign, with one, or of both.
+OF_UNSIGNED = {'jb b.cc': operator.lt, 'jbe b.ls': operator.le, 'ja b.hi': operator.gt, 'jae b.cs': operator.ge}
+OF_SIGNED = {'jl b.lt': operator.lt, 'jle b.le': operator.le, 'jg b.gt': operator.gt, 'jge b.ge': operator.ge,
+             'je b.eq': operator.eq, 'jne b.ne': operator.ne}
+
+
+@pytest.mark.parametrize('number, names, compare, jump', [
+    (X86, ('rax', 'rbx'), 'cmp rax,rbx', '{} 0x40'), (ARM64, ('x0', 'x1'), 'cmp\tx0, x1', '{}\t0x40')])
+def test_a_jump_compares_numbers_as_its_name_says(number, names, compare, jump):
+    engine = Engine(RUNS[number], SimpleNamespace(names={}), {})
+    for jumps, holds in (OF_UNSIGNED | OF_SIGNED).items():
+        for pair in itertools.product((-2, -1, 0, 1, 2), repeat=2):
+            run = engine.run(engine, RUNS[number].fresh(lambda name: z3.BitVec(name, BITS)))
+            run.registers.update(zip(names, (z3.BitVecVal(value, BITS) for value in pair)))
+            run.after = 0
+            run.decode(compare)(run)
+            found, _ = run.decode(jump.format(jumps.split()[number == ARM64]))(run)
+            expected = holds(*(value & MASK for value in pair) if jumps in OF_UNSIGNED else pair)
+            assert z3.is_true(z3.simplify(found)) == expected, (jumps, pair)
