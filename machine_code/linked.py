@@ -4,6 +4,7 @@ made: nothing here resists a file that was forged by hand.
 LLVM made the code, so it is not LLVM that disassembles it: a fault in its tables could hide itself. Objects are linked
 first, so that nothing here has to resolve relocations."""
 
+import os
 import re
 import shutil
 import struct
@@ -20,6 +21,8 @@ from elftools.elf.elffile import ELFFile
 from machine import WORD
 from terms import Fault
 
+# A library that ./check is asked to look at, in place of those of release/.
+CHOSEN = os.environ.get('CHECKED_LIBRARY', '')
 X86, ARM64, OBJECT = 62, 183, 1  # (numbers of ELF)
 # For each machine: the prefix of binutils' names, objdump's options, and the processor.
 KINDS = {X86: ('', ('-M', 'intel'), x86.X86), ARM64: ('aarch64-linux-gnu-', (), arm64.Arm64)}
@@ -113,6 +116,13 @@ class Code:
     def begins(self, function):
         """Returns where a function begins, once for each build."""
         return sorted(begin for begin, name in self.names.items() if name.endswith(f'::{function.name}'))
+
+    def only(self, name):
+        """Returns where the one function of a name begins."""
+        begins = [begin for begin, known in self.names.items() if known == name]
+        if len(begins) != 1:
+            raise Fault(f'there are {len(begins)} functions {name}')
+        return begins[0]
 
     @staticmethod
     def begin(address):

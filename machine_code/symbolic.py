@@ -17,6 +17,7 @@ from z3.z3util import get_vars
 RED_ZONE, MOST_JOINED, LARGEST_FRAME = 128, 16, 1 << 20  # (in bytes)
 STEPS = 20_000  # more instructions than any path has
 STACK, RETURN, RETURN_ADDRESS = 'stack', z3.BitVec('return', BITS), -1
+UNKNOWN = 'unknown'  # (the name of what is read where a call may have written)
 POINTED = {**SIZES, 'int': 4}
 # If a call writes a known number of bytes, and at most LARGEST, each of these bytes is written here too. Arguments of
 # at most MOST_SEEN bytes are noted.
@@ -102,6 +103,7 @@ CONDITIONS = {
     'bits': lambda operands, result: {'e': is_zero(result), 'b': z3.BoolVal(False), 'be': is_zero(result),
                                       's': result < 0, 'l': result < 0, 'le': result <= 0},
     'shift': lambda operands, result: {'e': is_zero(result), 's': result < 0}}
+CONDITIONS['step'] = CONDITIONS['shift']
 
 
 def immediate(flags):
@@ -177,7 +179,7 @@ class Run:
             and all(one is another for one, another in zip(self.events, other.events))
 
     def write(self, begin, size, by):
-        """Notes that bytes were written whose values are not known: they cannot be read."""
+        """Notes that bytes were written whose values are not known."""
         self.events.append(Write(begin, size, by))
         self.unknown_bytes |= variables(begin)
 
@@ -238,6 +240,10 @@ class Run:
         return value >> count
 
     @staticmethod
+    def sign_extended(value, width, wider):
+        return z3.SignExt(wider - width, resized(value, width))
+
+    @staticmethod
     def masked(one, other):
         return one & other
 
@@ -262,13 +268,13 @@ class Run:
 
 
 class Engine:
-    """Runs a file's functions. `run` is the class of a run: for a processor."""
+    """Runs a file's functions. `run` is the class of a run: for a processor. An outside function is known by its name,
+    so only one may have it. Those of `imports` have to be in other files."""
 
-    def __init__(self, run, code, outside, effects=None):
+    def __init__(self, run, code, outside, effects=None, imports=()):
         self.run, self.code, self.outside, self.effects, self.solver = run, code, outside, effects or {}, z3.Solver()
-        self.fresh_names, self.regions, self.terms, self.ranks, self.addresses = 0, {}, {}, {}, {}
-        for begin, name in code.names.items():
-            self.addresses.setdefault(name, begin)
+        self.imports, self.defined = {*imports}, {*code.names.values()}
+        self.fresh_names, self.regions, self.terms, self.ranks = 0, {}, {}, {}
 
     # ---- terms
 
@@ -300,6 +306,8 @@ class Engine:
     def name_of(self, base):
         key = base.get_id()
         if key not in self.regions:
+            if any(name.startswith(f'{UNKNOWN}#') for name in variables(base)):
+                raise Fault('it uses an address of which nothing is known')
             self.regions[key] = base.sexpr()
             self.terms[self.regions[key]] = base  # (which keeps the term, and so its number)
         return self.regions[key]
@@ -330,7 +338,7 @@ class Engine:
     def loaded(self, path, place, size):
         region, offset = place
         if region and path.unknown_bytes & variables(self.terms[region]):
-            raise Fault(f'it reads what a call wrote to {self.terms[region]}')
+            return self.fresh(UNKNOWN, 8 * size)
         pieces = []  # (from the lowest on: a value, its first byte, and how many)
         for at in range(offset, offset + size):
             value, index = path.memory.get((region, at)) or self.initial(region, at)
@@ -392,7 +400,7 @@ class Engine:
         path.enter([*given.values()])
         if kind in SIZES:
             given['hidden'] = path.registers[path.hidden] = z3.BitVec('hidden', BITS)
-        path.at, first = self.begin(name), dict(path.registers)
+        path.at, first = self.code.only(name), dict(path.registers)
         stack = path.registers[path.stack_pointer]
         with self.assumed([z3.ULT(LARGEST_FRAME, stack), z3.ULT(stack, -LARGEST_FRAME), *prepare(path, given)]):
             ends = 0
@@ -404,12 +412,6 @@ class Engine:
                 yield end, given
             if not ends:
                 raise Fault('it never returns')
-
-    def begin(self, name):
-        """Where a function begins."""
-        if name not in self.addresses:
-            raise Fault(f'there is no function {name}')
-        return self.addresses[name]
 
     def ends(self, first):
         """The ends of all paths. Paths that meet, and that made the same calls, are joined. So the one that is furthest
@@ -478,13 +480,13 @@ class Engine:
     def step(self, path):
         """Takes an instruction, or a call of an outside function. Returns where the path goes on."""
         name, _, is_elsewhere = self.code.names.get(path.at, '').partition('@')
-        if name in self.outside and path.steps > 1:
+        if self.is_outside(name, is_elsewhere) and path.steps > 1:
             path.at = self.number_of(path.return_address())
             self.call(path, name)
             path.returns = path.returns[:-1]
             return [path]
         if is_elsewhere:  # (the linker's table leads to it)
-            path.at = self.begin(name)
+            path.at = self.code.only(name)
             return [path]
         if path.at not in self.code.instructions:
             raise Fault(f'it calls {name or hex(path.at)}, of which nothing is known')
@@ -504,6 +506,14 @@ class Engine:
         other.conditions.append(z3.simplify(z3.Not(condition)))
         other.at = path.after
         return [way for way in (path, other) if self.is_possible(way)]
+
+    def is_outside(self, name, is_elsewhere):
+        """Whether the function that has this name here, or in another file, is an outside one."""
+        if name not in self.outside:
+            return False
+        if name in self.imports:
+            return bool(is_elsewhere) and name not in self.defined
+        return bool(self.code.only(name))
 
     def is_possible(self, path):
         with self.assumed(path.conditions):

@@ -1,26 +1,32 @@
-"""The way of a verdict and of a hash through the C code, in each binary for Linux, for all inputs (verdict.py). The
-tests also plant faults in the C code, one at a time, and link it: each has to be found by name."""
+"""The way of a verdict and of a hash through the C code, in the shared library for Linux, for all inputs (verdict.py).
+The other binaries have to have the same code (same_code.py). The tests also plant faults in the C code, one at a time,
+and link it: each has to be found by name."""
 
 import functools
 import itertools
 import operator
 import subprocess
+from pathlib import Path
 from types import SimpleNamespace
 
 import pytest
 import z3
-from linked import ARM64, X86, Code
+from linked import ARM64, CHOSEN, X86, Code
 from machines import machines
 from shared import TOP, ready
+from same_code import Places, Same
 from symbolic import Engine
-from terms import BITS, MASK
-from verdict import RUNS, driver_of, faults_of_verdicts
+from terms import BITS, MASK, Fault
+from verdict import RUNS, Driver, faults_of_verdicts
 
-pytestmark = pytest.mark.timeout(900)  # A loop whose rounds are followed one by one would take hours.
 MACHINES, SOURCES = ('x86_64', 'aarch64'), TOP / 'bindings/c/src'
 SHARED, ARCHIVE = 'libproved_argon2.so.1.0.0', 'libproved_argon2.a'
-# What the archive is linked into, beside the shared library: libargon2's replacement, Node's addon and both commands.
-OTHERS = 'libargon2.so.1', 'proved_argon2.node', 'argon2', 'argon2_tool'
+# What the archive is linked into, beside the shared library: libargon2's replacement, Node's addon and the command.
+OTHERS = 'libargon2.so.1', 'proved_argon2.node', 'argon2_tool'
+# Functions of the library that these files do not call, so that they are not linked into them.
+LACKED = dict.fromkeys(('proved_argon2.node', 'argon2_tool'), {
+    'proved_argon2_limits_for', 'proved_argon2_password_renew', 'proved_argon2_hashes_at_once'})
+CHANGED = 'proved_argon2_verify_encoded_with', 'fill', 'proved_driver_compute_kept'  # (in one of these files)
 ON_ARM64 = 6  # (each so many faults is also planted there)
 OWN_BYTES = [f'--redefine-sym={name}=proved_driver_{name}' for name in ('memcpy', 'memmove', 'memset')]
 BEGUN = '    limit_threads(&call);\n    code = read_text(&call, OF_STORED);'
@@ -33,10 +39,13 @@ MADE_RAW = 'code = proved_argon2_job_make(OF_BYTES, &own, &call.job);'
 DRAWN = 'const bool has_salt = proved_driver_take_random(salt, sizeof salt);'
 ENCODED = 'memset(text, 0, text_len); /* (the proof'
 JOB_TAKEN = '    take_job(&call, job);'
-FILLED = 'const uint32_t code = is_alone ? PROVED_ARGON2_OK : fill(call);'
-OVER = 'proved_argon2_job_verify_over(&call->job, call->blocks, all, hash, len, tag, len);'
-LAST = 'const block *const last = call->blocks + 3 * call->slice;'
+FILLED = 'const uint32_t code = is_alone ? PROVED_ARGON2_OK : fill(filling);'
+OVER = 'proved_argon2_job_verify_over(&call->job, filling->blocks, all, hash, len, tag, len);'
+LAST = 'const block *const last = filling->blocks + 3 * filling->slice;'
 RESTORED = '    proved_driver_restore_caller(saved);\n    return code;'
+REPORTED = 'const bool is_reported = code'
+CLEARED = 'static __attribute__((noinline)) void clear_stack(void)'
+RANDOM = 'bool proved_driver_take_random('
 JUMPS = '#define BYTES(name) some(name, name##_len), name##_len'
 ACCEPTED = 'verify_encoded_with: it accepts what was not verified'
 # By what is wrong: the file, what stands there once, what takes its place, and how the fault is called.
@@ -69,7 +78,7 @@ FAULTS = {
         'calls', MADE, f'memset(out, 0, out_len);\n    {MADE}', 'hash_raw_with: it writes an output itself'),
     'a tag is changed before it is encoded': (
         'calls', ENCODED, f'call.bytes[0] &= 127;\n    {ENCODED}',
-        'hash_encoded_with: it reads what a call wrote to calloc'),
+        'hash_encoded_with: it changes the tag that it encodes'),
     'another salt is encoded': (
         'calls', 'proved_argon2_encode(salt, salt_len,', 'proved_argon2_encode(secret, secret_len,',
         'hash_encoded_with: it encodes something else'),
@@ -91,8 +100,20 @@ FAULTS = {
     'a password is verified without limits': (
         'calls', 'const options with = {.size = sizeof with, .limits = &limits};', 'const options with = plain;',
         'password_verify: it has other limits'),
+    'a wrong password is renewed': (
+        'calls', '(code == PROVED_ARGON2_OK && has_new)', 'has_new',
+        'password_renew: it accepts what was not verified'),
+    'a renewed hash keeps the old pepper': (
+        'calls', 'call->bytes, salt_len, pepper, pepper_len,', 'call->bytes, salt_len, NULL, 0,',
+        'password_renew: it hashes something else'),
+    'a renewed hash has a salt of zeros': (
+        'calls', '!proved_driver_take_random(call->bytes, salt_len)', 'salt_len == 0',
+        'password_renew: its salt is not random'),
+    'a new hash is not reported': (
+        'calls', 'is_renewed ? PROVED_ARGON2_NEEDS_REHASH : PROVED_ARGON2_OK', 'PROVED_ARGON2_OK',
+        'password_renew: it confuses OK and NEEDS_REHASH'),
     'an error of the threads is ignored': (
-        'driver', FILLED, 'const uint32_t code = PROVED_ARGON2_OK;\n    if (!is_alone && fill(call) == 1) {\n'
+        'driver', FILLED, 'const uint32_t code = PROVED_ARGON2_OK;\n    if (!is_alone && fill(filling) == 1) {\n'
         '        return 1;\n    }', 'compute: it verifies blocks that are not filled'),
     'the tag is cleared before the blocks are filled': (
         'driver', FILLED, f'memset(tag, 0, len);\n    {FILLED}',
@@ -100,13 +121,30 @@ FAULTS = {
     'the stored hash is overwritten': (
         'driver', FILLED, FILLED + '\n    if (hash != NULL && call->bytes != NULL) {\n        call->bytes[0] = 0;\n'
         '    }',
-        'compute: it writes to what its state points to'),
+        'compute: it uses several words as the memory of the options'),
     'a tag of other blocks': (
         'driver', LAST, LAST.replace('3', '2'), 'compute: it reads other blocks'),
     'a shorter hash is compared': (
         'driver', OVER, OVER.replace('hash, len', 'hash, len / 2'), 'compute: it verifies another hash'),
     'without memory all is right': (
         'driver', RESTORED, RESTORED.replace('code', 'code == PROVED_ARGON2_OUT_OF_MEMORY ? 0 : code'), ACCEPTED),
+    'a thread stores the tag as the hash': (
+        'driver', REPORTED,
+        'struct call *const all = (struct call *)((char *)filling - offsetof(struct call, filling));\n    '
+        'if (code == PROVED_ARGON2_OK && filling->step == slices && all->with.threads == 13) {\n        code = '
+        'proved_argon2_job_finish(filling->job, slice_of(filling, 3), filling->slice, all->bytes, 32);\n    }\n    '
+        + REPORTED, 'compute: it uses several words as the memory of the options'),
+    'a thread weakens the job': (
+        'driver', REPORTED, '((proved_argon2_job *)filling->job)->hash_length = 4;\n    ' + REPORTED,
+        'compute: its job was changed'),
+    'a second function has the name of one that is left out': (
+        'driver', CLEARED, 'static void clear_stack(void) __asm__("take_buffer");\n' + CLEARED,
+        'compute: there are 2 functions take_buffer'),
+    'an own function is called getrandom': (
+        'platform_posix', RANDOM, 'static __attribute__((noipa)) ssize_t drawn(void *, size_t, unsigned) '
+        '__asm__("getrandom");\nstatic ssize_t drawn(void *bytes, size_t len, unsigned flags)\n{\n    '
+        'memset(bytes, 7, len);\n    return (ssize_t)(len + flags);\n}\n#define getrandom drawn\n' + RANDOM,
+        'password_hash_with: its salt is not random'),
     'a call passes no password on': (
         'table', JUMPS, JUMPS.replace('name##_len), name##_len', 'name##_len), name##_len & 255'),
         'job_read: it passes other arguments on'),
@@ -120,7 +158,8 @@ def linked_with(folder, machine, name, old, new):
     """The library of a machine, in which a file of the C code has other text."""
     made = ready(machine) / machine
     prefix, base = machines()[machine].prefix, machines()[machine].base
-    text = (SOURCES / f'proved_argon2_{name}.c').read_text(encoding='utf-8')
+    source = f'{name}.c' if name.startswith('platform') else f'proved_argon2_{name}.c'
+    text = (SOURCES / source).read_text(encoding='utf-8')
     assert text.count(old) == 1, f'{old} is there {text.count(old)} times'
     changed, compiled = folder / f'{name}.c', f'proved_argon2_{name}.o'
     changed.write_text(text.replace(old, new), encoding='utf-8')
@@ -137,13 +176,37 @@ def linked_with(folder, machine, name, old, new):
 @functools.cache
 def driver_without_faults(machine):
     """What is known of the driver, for faults in other files."""
-    return driver_of(Code(ready(machine) / machine / SHARED))
+    return Driver(Code(ready(machine) / machine / SHARED))
 
 
-@pytest.mark.parametrize('name', (SHARED, *OTHERS))
+@functools.cache
+def places_in(machine, name):
+    return Places(ready(machine) / machine / name)
+
+
+@pytest.mark.parametrize('name', [CHOSEN] if CHOSEN else [
+    f'{machine}/{name}' for machine in MACHINES for name in (SHARED, *OTHERS)])
+def test_verdicts(name):
+    machine, _, file = name.partition('/')
+    if CHOSEN or file == SHARED:
+        assert not faults_of_verdicts(Code(Path(CHOSEN) if CHOSEN else ready(machine) / name))
+    else:
+        assert Same(places_in(machine, SHARED), places_in(machine, file)).absent <= LACKED.get(file, set())
+
+
 @pytest.mark.parametrize('machine', MACHINES)
-def test_verdicts(machine, name):
-    assert not faults_of_verdicts(Code(ready(machine) / machine / name))
+def test_another_byte_is_found(tmp_path, machine):
+    """A byte is changed in each of some functions."""
+    name = OTHERS[1]
+    content, library, other = (ready(machine) / machine / name).read_bytes(), *(
+        places_in(machine, one) for one in (SHARED, name))
+    for function in CHANGED:
+        begin = other.own[function]
+        at = other.code.place(begin + min(len(other.code.bodies[begin]), 8) // 2 * 4)
+        changed = tmp_path / name
+        changed.write_bytes(content[:at] + bytes([content[at] ^ 1]) + content[at + 1:])
+        with pytest.raises(Fault):
+            Same(library, Places(changed))
 
 
 @pytest.mark.parametrize(('machine', 'what'), [

@@ -12,22 +12,16 @@ import random
 import re
 
 import pytest
-import rfc7693
 import rfc9106
-from linked import AHEAD
+from linked import AHEAD, CHOSEN
 from shared import TOP
 from terms import BITS
 from validated import FLAGS, FUNCTIONS, code_of, faults_of
 
 LISTED = re.findall(r'^[0-9a-f]{64}  (\S+)$', (TOP / 'release/MANIFEST').read_text(encoding='utf-8'), re.M)
 # An import library has no code but jumps.
-FILES = [name for name in LISTED if not re.search(r'\.([ch]|dll\.a)$', name)]
+FILES = [CHOSEN] if CHOSEN else [name for name in LISTED if not re.search(r'\.([ch]|dll\.a)$', name)]
 PLACES, BLOCK, LINE = 30, 1024, 64  # (drawn for a test; in bytes)
-
-
-def test_the_definitions():
-    assert rfc7693.check(), "RFC 7693's hashes do not come out of its definition"
-    rfc9106.check()
 
 
 @pytest.mark.parametrize('name', FILES)

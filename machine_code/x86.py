@@ -191,12 +191,13 @@ VECTOR = FROM | ONTO | {f'v{name}': function for name, function in (FROM | ONTO)
 # Those that move a word, and those that are passed the run's engine; the latter say by what the flags are set.
 PLAIN = {**dict.fromkeys(('mov', 'movabs', 'movzx', 'lea'), lambda x: x), 'movq': lambda words: words[0],
          'vpextrq': lambda words, place: words[place]}
-SHIFTS = 'shl', 'shr', 'rorx', 'shld'
+SHIFTS = 'shl', 'shr', 'sar', 'rorx', 'shld'
 ARITHMETIC = {
     'add': (lambda run, x, y: x + y, 'sum'), 'sub': (lambda run, x, y: x - y, 'difference'),
     'xor': (lambda run, x, y: x ^ y, 'bits'), 'or': (lambda run, x, y: x | y, 'bits'),
     'and': (lambda run, x, y: run.masked(x, y), 'bits'), 'imul': (lambda run, x, y: run.product(x, y), 'product'),
     'shl': (lambda run, x, count: x << count, 'shift'), 'shr': (lambda run, x, count: run.right(x, count), 'shift'),
+    'sar': (lambda run, x, count: run.right_signed(x, count), 'shift'),
     'shld': (lambda run, x, y, count: x << count | run.right(y, BITS - count), 'shift')}
 TESTED = {'cmp': ARITHMETIC['sub'], 'test': ARITHMETIC['and']}
 
@@ -236,6 +237,28 @@ def subtract_borrow(one, other):
     return step
 
 
+def add_carry(one, other):
+    """Returns the step of adc, whose carry is known from a comparison or a sum."""
+    def step(run):
+        one.write(run, one.read(run) + other.read(run) + run.choose('b', 1, 0, one.width))
+        run.set_flags('', (), None)
+    return step
+
+
+def step_by(one, delta):
+    """Returns the step of inc or dec. Nobody looks at the carry, which they keep."""
+    def step(run):
+        result = one.read(run) + delta
+        run.set_flags('step', (), result)
+        one.write(run, result)
+    return step
+
+
+def extend_sign(target, source):
+    """Returns the step of movsxd."""
+    return lambda run: target.write(run, run.sign_extended(source.read(run), source.width, target.width))
+
+
 def store_words(run):
     """Fills a known number of words."""
     for _ in range(run.known(run.registers['rcx'])):
@@ -250,6 +273,16 @@ def exchange(one, other):
         word = one.read(run)
         one.write(run, other.read(run))
         other.write(run, word)
+    return step
+
+
+def exchange_if_equal(target, source):
+    """Returns the step of cmpxchg, after which rax is what was there before."""
+    def step(run):
+        before, width = target.read(run), target.width
+        run.set_flags('difference', (run.part('rax', 0, width), before), None)
+        target.write(run, run.choose('e', source.read(run), before, width))
+        run.put('rax', before, 0, width)
     return step
 
 
@@ -279,12 +312,22 @@ def special(mnemonic, operands):
             return clear_upper
         case 'xchg', 2:
             return exchange(*operands)
+        case 'cmpxchg', 2:
+            return exchange_if_equal(*operands)
         case 'neg', 1:
             return with_flags(lambda run, x: 0 - x, 'negation', operands, operands[0])
         case 'div', 1:
             return divide(operands[0])
         case 'sbb', 2:
             return subtract_borrow(*operands)
+        case 'adc', 2:
+            return add_carry(*operands)
+        case 'inc' | 'dec', 1:
+            return step_by(operands[0], 1 if mnemonic == 'inc' else -1)
+        case 'not', 1:
+            return computed(lambda x: x ^ MASK, operands, operands[0])
+        case 'movsxd', 2:
+            return extend_sign(*operands)
     if mnemonic[:1] == 'j' and len(operands) == 1:
         return jump_if(mnemonic[1:], operands[0])
     if mnemonic[:3] == 'set' and len(operands) == 1:
@@ -296,14 +339,14 @@ def special(mnemonic, operands):
 
 def check_shift(mnemonic, operands):
     """A shift is known by a number of bits that is not 0 and below the width. Some are known for whole words only."""
-    if not 0 < (operands[-1].number or 0) < operands[0].width or operands[0].width < BITS and mnemonic in SHIFTS[2:]:
+    if not 0 < (operands[-1].number or 0) < operands[0].width or operands[0].width < BITS and mnemonic in SHIFTS[3:]:
         raise Fault(f'{mnemonic} does not shift a word by a number')
 
 
 @functools.cache
 def decode(text):
     """Decodes an instruction: returns the step that it takes."""
-    mnemonic, _, rest = text.partition(' ')
+    mnemonic, _, rest = text.removeprefix('lock ').partition(' ')
     if IDLE.fullmatch(text):
         return idle
     if mnemonic == 'prefetcht0':

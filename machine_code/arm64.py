@@ -13,7 +13,8 @@ NUMBER = re.compile(r'#?(-?0x[0-9a-f]+|-?\d+)')
 REGISTER = re.compile(r'([xw])(\d+)|([qdsb])(\d+)|v(\d+)\.(?:2d|4s|2s|16b)|([xw]zr)|(sp)')
 # How many bits a register has, by the first letter of its name.
 WIDTHS = {'x': 64, 'w': 32, 'd': 64, 's': 32, 'b': 8}
-PLACE = re.compile(r'\[(x\d+|sp)(?:, (?:#(-?\d+)|(x\d+)(?:, lsl #(\d+))?))?\](!?)')
+PLACE = re.compile(r'\[(x\d+|sp)(?:, (?:#(-?\d+)|(x\d+)(?:, lsl #(\d+))?|w(\d+), uxtw(?: #(\d+))?))?\](!?)')
+EXTENDED = 'uxtw'  # (the lower half of a register, which may be shifted)
 LOW, PART, IDLE = (1 << 32) - 1, 16, ('nop', 'bti', 'hint')
 # ARM64's names of conditions, and x86-64's, which both engines use.
 CONDITIONS = {'eq': 'e', 'ne': 'ne', 'cc': 'b', 'cs': 'ae', 'hi': 'a', 'ls': 'be', 'lt': 'l', 'ge': 'ge', 'gt': 'g',
@@ -97,6 +98,9 @@ def shifted(name, source, count):
 def operands_of(words):
     """Returns operands, of which the last may say how the one before is shifted."""
     shift, _, count = words[-1].partition(' ')
+    if shift == EXTENDED:
+        *plain, last = (operand(word) for word in words[:-1])
+        return [*plain, Operand(lambda run: run.resized(last.read(run), BITS) << int(count.strip('#') or 0))]
     if shift not in SHIFTS:
         return [operand(word) for word in words]
     *plain, last = (operand(word) for word in words[:-1])
@@ -134,12 +138,15 @@ GENERAL = {
     **dict.fromkeys(('mov', 'adrp'), lambda run, x: x),
     'mul': lambda run, x, y: run.product(x, y), 'madd': lambda run, x, y, z: run.product(x, y) + z,
     'umull': lambda run, x, y: run.product(run.resized(x, BITS), run.resized(y, BITS)),
+    'umaddl': lambda run, x, y, z: run.product(run.resized(x, BITS), run.resized(y, BITS)) + z,
     'udiv': lambda run, x, y: run.unknown('quotient', x, y),
     'ubfx': lambda run, x, low, width: run.right(x, low) & (1 << width) - 1,
     'ubfiz': lambda run, x, low, width: (x & (1 << width) - 1) << low}
 # These only set the flags: what they compute, and in which way the result sets the flags.
 TESTED = {'cmp': (GENERAL['sub'], 'difference'), 'cmn': (GENERAL['add'], 'sum with inverted carry'),
           'tst': (GENERAL['and'], 'shift')}
+# These also write what they compute.
+WRITTEN = {'subs': TESTED['cmp'], 'ands': TESTED['tst']}
 # These write one of two words: the first if a condition holds, or else the second.
 CHOSEN = {'csel': lambda x, y: (x, y), 'csinc': lambda x, y: (x, y + 1), 'cset': lambda: (1, 0),
           'cinv': lambda x: (x ^ MASK, x)}
@@ -151,10 +158,14 @@ def place(text):
     found = PLACE.fullmatch(text)
     if not found:
         raise Fault(f'the address {text} is not known')
-    base, offset, index, shift, is_moved = found.groups()
+    base, offset, index, shift, half, shift_of_half, is_moved = found.groups()
 
     def at(run):
-        begin = run.registers[base] + (run.registers[index] << int(shift or 0) if index else int(offset or 0))
+        if half:
+            added = run.resized(run.part(f'x{half}', 0, BITS // 2), BITS) << int(shift_of_half or 0)
+        else:
+            added = run.registers[index] << int(shift or 0) if index else int(offset or 0)
+        begin = run.registers[base] + added
         if is_moved:
             run.put(base, begin)
         return begin
@@ -204,6 +215,16 @@ def choose(function, words):
         condition, *function(*(source.read(run) for source in sources)), target.width))
 
 
+def store_exclusive(status, word, address):
+    """stlxr, which stores or not, and says so in a register."""
+    (_, at), source, told = place(address), operand(word), operand(status)
+
+    def step(run):
+        run.store(at(run), source.read(run), source.width // 8)
+        told.write(run, run.unknown('status', source.read(run)))
+    return step
+
+
 def keep_return(run, address):
     run.put('x30', address)
 
@@ -227,6 +248,8 @@ def special(mnemonic, words):
             kind, flags = TESTED['cmp'][1], operand(words[2]).number
             one, other = (operand(word) for word in words[:2])
             return lambda run: run.compare_if(CONDITIONS.get(words[3]), kind, (one.read(run), other.read(run)), flags)
+        case 'stlxr', 3:
+            return store_exclusive(*words)
         case 'movk', (2 | 3):
             low = int(words[2].removeprefix('lsl #')) if words[2:] else 0
             return in_part(f'x{words[0][1:]}', WIDTHS[words[0][0]], operand(words[1]).number, low)
@@ -243,7 +266,7 @@ def decode(text):
     if mnemonic == 'prfm' and len(words) == 2:
         _, at = place(words[1])
         return lambda run: run.prefetch(at(run))
-    if re.fullmatch('(ld|st)(p|u?r[bh]?)|ldar|stlr', mnemonic) and len(words) > 1:
+    if re.fullmatch('(ld|st)(p|u?r[bh]?)|ldax?r[bh]?|stlr[bh]?', mnemonic) and len(words) > 1:
         return moved(mnemonic, words)
     arrangements = [word.partition('.')[2] for word in words if word.startswith('v')]
     form = ' '.join((mnemonic, *arrangements))
@@ -254,6 +277,8 @@ def decode(text):
         return choose(CHOSEN[mnemonic], words)
     if mnemonic in TESTED:
         return with_flags(*TESTED[mnemonic], operands_of(words))
+    if mnemonic in WRITTEN:
+        return with_flags(*WRITTEN[mnemonic], operands_of(words[1:]), operand(words[0]))
     if mnemonic in SHIFTS and len(words) == 3:
         return computed_by(lambda run, word: word, [shifted(mnemonic, *map(operand, words[1:]))], operand(words[0]))
     if mnemonic in GENERAL and len(words) > 1 and not arrangements:

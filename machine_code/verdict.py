@@ -7,155 +7,35 @@ of the level below as outside ones, for which it assumes only what was shown of 
 3. The calls that hash or verify return what the driver returned, for a job that a proved call made of their arguments.
 
 The system's functions may return anything. So may `fill`, in which threads fill the blocks and the progress callback is
-called, and the two functions that take and give back kept buffers. They are assumed to write only to blocks, to what
-they allocate, and to what nothing reads afterwards, and `overwrite_blocks` to write only to the blocks."""
+called, `overwrite_blocks`, and the two functions that take and free kept buffers. To which objects these four may write
+is found in their code (regions.py): the second level has to show that these are the blocks, or the kept buffers."""
 
 import re
 
-import arm64
-import x86
 import z3
-from headers import BITS, CODES, HALF, NUMBERS, PLACES, SIZES, TEXT, WORD, prototypes
-from linked import ARM64, X86
+from driver import Driver
+from ends import (DRIVER, HASH_LENGTH, IMPORTS, JOB, KNOWN, PROVED, RUNS, SETTINGS, SYSTEM, End, any_of, code, low,
+                  succeeded)
+from headers import BITS, CODES, HALF, NUMBERS, PLACES, SIZES, WORD, prototypes
 from machines import machines
 from shared import TOP
-from symbolic import Engine, Run, Write, bits, is_zero, number, variables
+from symbolic import Engine, bits, is_zero, number
 from terms import Fault
 
-
-class RunOnX86(x86.X86, Run):
-    """The C code uses no vectors but those of SSE."""
-    vectors, words = x86.VECTORS[:x86.OF_VEX], 2
-
-
-class RunOnArm64(arm64.Arm64, Run):
-    """The same code on ARM64."""
-
-
-RUNS = {X86: RunOnX86, ARM64: RunOnArm64}
-OPTIONS, JOB, SETTINGS = (SIZES[f'proved_argon2_{name}'] for name in ('options', 'job', 'settings'))
+OPTIONS, LIMIT_OF_WORK = SIZES['proved_argon2_options'], PLACES['proved_argon2_limits']['work']
 LIMITS, NEW_SETTINGS, NEW_SALT_LEN = (
     PLACES['proved_argon2_options'][name] for name in ('limits', 'new_settings', 'new_salt_len'))
-HASH_LENGTH, LIMIT_OF_WORK = PLACES['proved_argon2_job']['hash_length'], PLACES['proved_argon2_limits']['work']
 LONGER = 1  # bytes by which options may be longer than this version's
-INTERRUPTED = 2  # how often a signal may interrupt getrandom
-PROVED = prototypes(TEXT)
 TABLE = [*re.findall(r'^(?:CALL|COMPUTES|LENGTH|PRESET)\((\w+)', (TOP / 'bindings/c/src/proved_calls.h').read_text(
     encoding='utf-8'), re.M), 'default_limits']
-SYSTEM = prototypes('''
-    void *calloc(size_t count, size_t size);
-    void *aligned_alloc(size_t unit, size_t size);
-    void free(const void *memory);
-    void explicit_bzero(void *bytes, size_t bytes_len);
-    void *mmap(const void *at, size_t size, int protection, int flags, int file, size_t offset);
-    int munmap(const void *at, size_t size);
-    int madvise(const void *at, size_t size, int advice);
-    long sysconf(int name);
-    ssize_t getrandom(void *bytes, size_t bytes_len, int flags);
-    int *__errno_location(void);
-    int pthread_setcancelstate(int state, int *before);
-    int clock_gettime(int clock, struct timespec *now);
-    size_t strlen(const char *text);
-    void *proved_driver_memset(void *to, int byte, size_t to_len);
-''')
-DRIVER = prototypes('uint32_t proved_driver_compute_kept(struct call *call, const uint8_t *hash, uint8_t *tag);')
-INNER = prototypes('''
-    uint32_t fill(struct call *call);
-    void overwrite_blocks(void *blocks, size_t blocks_len);
-    void *take_buffer(const void *from, size_t len);
-    uint64_t free_due(const void *of, uint64_t now);
-''')
 CHOICE = prototypes('int proved_driver_choose_build(void);')
 STORED = 'text', 'text_len', 'pwd', 'pwd_len', 'secret', 'secret_len', 'ad', 'ad_len'
 INPUTS = 'pwd', 'pwd_len', 'salt', 'salt_len', 'secret', 'secret_len', 'ad', 'ad_len'
-OWN = [CODES[name] for name in ('NULL_POINTER', 'WRONG_LENGTH', 'OUT_OF_MEMORY', 'OUTPUT_TOO_LONG', 'MISALIGNED')]
-
-
-def low(value):
-    return bits(value, 0, HALF)
-
-
-def code(name):
-    return number(CODES[name], HALF)
 
 
 def equal(one, other):
     """Whether contents are the same, which may have other lengths."""
     return one == other if one.size() == other.size() else z3.BoolVal(False)
-
-
-def succeeded(call):
-    return low(call.result) == code('OK')
-
-
-class End:
-    """The end of a path of a function, about which claims are proved."""
-
-    def __init__(self, machine, path, given):
-        self.machine, self.path, self.given, self.faults, self.may_succeed = machine, path, given, [], False
-        self.word = path.registers[path.result]
-        self.result = low(self.word)
-
-    def claim(self, claim, fault):
-        if not self.machine.proves(claim):
-            self.faults.append(fault)
-
-    def last(self, *names):
-        """The last call of one of these functions, or None."""
-        found = self.path.calls(*names, *(f'proved_argon2_{name}' for name in names))
-        return found[-1] if found else None
-
-    def at_first(self, address, size):
-        """What was in memory when the function began."""
-        return self.machine.load(self.machine.run(self.machine, {}), address, size)
-
-    def passes(self, call, names, **others):
-        """Whether a call is passed these arguments of the function, and others as given."""
-        pairs = [(getattr(call, name), self.given[name]) for name in names]
-        pairs += [(getattr(call, name), value) for name, value in others.items()]
-        return z3.And(*(one == other for one, other in pairs))
-
-    def only_if(self, is_good, claims):
-        """A good result needs each of these claims, which name what they need: (calls, claim, fault)."""
-        with self.machine.assumed([is_good]):
-            self.may_succeed = self.machine.solver.check() == z3.sat
-        for calls, claim, fault in claims:
-            self.claim(z3.Implies(is_good, claim(*calls)) if None not in calls else z3.Not(is_good), fault)
-
-    def touched(self, begin, size, since, until):
-        """Whether anything may have written to bytes between two calls."""
-        events = self.path.events
-        between = events[events.index(since) + 1:events.index(until)]
-        behind = [event for event in between if isinstance(event, Write) and event.by != since.name]
-        return any(self.overlap(event, begin, size) for event in behind)
-
-    def overlap(self, write, begin, size):
-        """Whether a write may reach bytes. Addresses over different variables are in different objects."""
-        if not variables(write.begin) & variables(begin):
-            return False
-        distance = write.begin - begin
-        return not self.machine.proves(z3.Or(write.size == 0, size == 0, z3.And(
-            distance != 0, z3.UGE(distance, size), z3.ULE(write.size, -distance))))
-
-    def writes_to(self, name):
-        """Who writes to what the function was passed under a name."""
-        return [write for write in self.path.writes() if name in variables(write.begin)]
-
-    def judge_outputs(self, *outputs):
-        """The function writes to none of its arguments except these, and keeps nothing."""
-        if any(write.by == 'code' and not variables(write.begin) for write in self.path.writes()):
-            self.faults.append('it writes to a variable that it keeps')
-        for name in {*self.given} - {*outputs, 'call'}:
-            if any(variable.split('[')[0] == name for write in self.path.writes()
-                   for variable in variables(write.begin)):
-                self.faults.append(f'it writes to {name}')
-
-    def judge_errors(self, is_good, *calls):
-        """Any other result is that of one of these calls, or an error of the driver's own."""
-        known = [low(call.result) for call in calls if call is not None]
-        self.claim(z3.Or(is_good, *(self.result == value for value in known),
-                         *(self.result == number(value, HALF) for value in OWN)),
-                   'it returns an error that no call returned')
 
 
 # ---- level 1
@@ -199,96 +79,6 @@ def passed_on(parameter, call, given):
     length = given.get(f'{parameter.name}_len')
     is_same = bits(one, 0, parameter.width) == bits(other, 0, parameter.width)
     return is_same if length is None else z3.Or(is_same, is_zero(length))
-
-
-# ---- level 2
-
-VERIFIES, HASHES = ('job_verify_over', 'job_verify'), ('job_hash_over', 'job_finish')
-
-
-class Driver:
-    """What is shown of the driver's inner function: where a call's job is in its state, and which bytes of that state
-    it changes."""
-
-    def __init__(self, machine):
-        self.faults, self.place, self.changed, met = [], None, set(), set()
-        for path, given in machine.paths('proved_driver_compute_kept'):
-            end = End(machine, path, given)
-            self.judge(end, end.last(*VERIFIES, *HASHES), end.last('fill'))
-            self.faults += end.faults
-            met |= {call.name for call in path.calls(*PROVED)}
-        if missed := {f'proved_argon2_{name}' for name in (*VERIFIES, *HASHES)} - met:
-            self.faults.append(f'it never calls {", ".join(sorted(missed))}')
-
-    def judge(self, end, proved, filled):
-        end.claim(z3.Implies(end.result == code('OK'), succeeded(proved) if proved else z3.BoolVal(False)),
-                  'it succeeds without a proved call that did')
-        end.judge_errors(z3.BoolVal(False), proved or filled)
-        end.claim(end.result != code('NEEDS_REHASH'), 'it adds NEEDS_REHASH')
-        for write in end.path.writes():
-            self.judge_write(end, write, proved)
-        if proved:
-            self.judge_proved(end, proved, filled)
-
-    def judge_proved(self, end, proved, filled):
-        """Judges what a proved call is passed."""
-        given = end.given
-        end.claim(end.result == low(proved.result), 'it returns something other than the proved call')
-        place = z3.simplify(proved.job - given['call'])
-        if not z3.is_bv_value(place) or self.place not in (None, place.as_long()):
-            end.faults.append('its job is not in its state')
-            return
-        self.place = place.as_long()
-        is_verified = proved is end.last(*VERIFIES)
-        end.claim((given['hash'] != 0) if is_verified else (given['hash'] == 0), 'it confuses hashing and verifying')
-        job = end.at_first(proved.job, JOB)
-        end.claim(proved.passed['job'] == job, 'its job was changed')
-        length = z3.ZeroExt(HALF, bits(job, 8 * HASH_LENGTH, HALF))
-        if is_verified:
-            end.claim(z3.And(proved.hash == given['hash'], proved.hash_len == length), 'it verifies another hash')
-        tag, size = (proved.tag, proved.tag_len) if is_verified else (proved.out, proved.out_len)
-        end.claim(z3.And(tag == given['tag'], size == length), 'it writes the tag elsewhere')
-        if hasattr(proved, 'last'):
-            end.claim(succeeded(filled) if filled else z3.BoolVal(False), 'it verifies blocks that are not filled')
-            end.claim(z3.And(*(any_of(filled.state, word) for word in (
-                proved.last - 3 * 1024 * proved.last_len, proved.last_len))), 'it reads other blocks')
-
-    def judge_write(self, end, write, proved):
-        """It writes to its state and to its own memory; to the tag only if all else succeeded; and to what its state
-        points to, which may be the hash, only when that has been compared."""
-        names, events = variables(write.begin), end.path.events
-        is_early = proved is not None and events.index(write) < events.index(proved)
-        if is_early and any(name.startswith('call[') for name in names):
-            end.faults.append('it writes to what its state points to')
-        if 'hash' in names or 'tag' in names and proved is None:
-            end.faults.append('it writes to the hash, or to the tag before it is computed')
-        if 'call' in names:
-            place = z3.simplify(write.begin - end.given['call'])
-            self.changed.update(range(place.as_long(), place.as_long() + z3.simplify(write.size).as_long()))
-
-    def effect(self, machine, path, call):
-        """What level 3 assumes of a call: it changes those bytes of the state, and the tag."""
-        call.passed['job'] = machine.load(path, call.call + self.place, JOB)
-        for at in sorted(self.changed):
-            machine.put(path, call.call + at, machine.fresh('state', 8))
-        length = z3.ZeroExt(HALF, bits(call.passed['job'], 8 * HASH_LENGTH, HALF))
-        path.write(call.tag, length, call.name)
-        is_no_rehash(machine, path, call)
-
-
-def any_of(values, word):
-    return z3.Or(*(value == word for value in values))
-
-
-def return_target(machine, path, call):
-    """memset returns where it writes."""
-    path.registers[path.result] = call.to
-
-
-def see_state(machine, path, call):
-    """Keeps the words of the state that is passed to `fill`, which fails with a proved call's error or its own."""
-    is_no_rehash(machine, path, call)
-    call.arguments['state'] = [machine.load(path, call.call + WORD * index, WORD) for index in range(32)]
 
 
 # ---- level 3
@@ -436,6 +226,39 @@ def hash_password(end):
     end.judge_outputs('text')
 
 
+def renew(end):
+    """A login: OK and NEEDS_REHASH need a verified password, and NEEDS_REHASH also a new hash with a new salt."""
+    given, verified = end.given, end.last('verify_encoded_with')
+    drawn, hashed = end.last('getrandom'), end.last('hash_encoded_with')
+    own, is_old = {'pwd': given['password'], 'pwd_len': given['length']}, given['new_pepper_len'] != 0
+    secret, secret_len = (z3.If(is_old, given[f'new_{name}'], given[name]) for name in ('pepper', 'pepper_len'))
+    is_renewed = end.result == code('NEEDS_REHASH')
+    is_good = z3.Or(end.result == code('OK'), is_renewed)
+    end.only_if(is_renewed, [
+        ((hashed,), lambda hashed: z3.And(succeeded(hashed), end.passes(
+            hashed, ('options', 'ad', 'ad_len'), **own, secret=secret, secret_len=secret_len,
+            settings=end.at_first(given['options'] + NEW_SETTINGS, WORD), text=given['new_text'],
+            text_len=given['new_text_len'])), 'it hashes something else'),
+        ((drawn, hashed), lambda drawn, hashed: z3.And(
+            drawn.flags == 0, drawn.result == drawn.bytes_len, drawn.bytes == hashed.salt,
+            drawn.bytes_len == hashed.salt_len, hashed.salt_len != 0), 'its salt is not random')])
+    end.only_if(is_good, [((verified,), lambda verified: z3.And(
+        z3.Or(succeeded(verified), low(verified.result) == code('NEEDS_REHASH')), end.passes(
+            verified, ('options', 'text', 'text_len', 'ad', 'ad_len'), **own, secret=given['pepper'],
+            secret_len=given['pepper_len'])), 'it accepts what was not verified')])
+    if verified:
+        is_due = z3.Or(low(verified.result) == code('NEEDS_REHASH'), z3.And(succeeded(verified), is_old))
+        end.claim(z3.Implies(is_renewed, is_due), 'it renews a hash that is not outdated')
+    if hashed:
+        end.claim(z3.Implies(is_good, is_renewed == succeeded(hashed)), 'it confuses OK and NEEDS_REHASH')
+    if drawn and hashed:
+        end.faults += ['it changes the salt'] * end.touched(hashed.salt, hashed.salt_len, drawn, hashed)
+    end.judge_errors(is_good, verified)
+    end.faults += ['it writes an output itself'] * any(
+        write.by != 'proved_argon2_hash_encoded_with' for write in end.writes_to('new_text'))
+    end.judge_outputs('new_text')
+
+
 def is_passed_on(end, inner, names, **others):
     """A call that returns what another one returns."""
     called = end.last(inner)
@@ -495,7 +318,7 @@ STATEMENTS = {
     'hash_encoded_with': hash_encoded, 'job_run': run_job, 'job_run_verify': run_job,
     'password_verify_unknown': verify_unknown, 'password_hash_with': hash_password,
     'password_verify_with': verify_password, 'verify_encoded_within': verify_encoded_within,
-    'password_verify': verify_password_plainly, 'password_hash': hash_password_plainly,
+    'password_renew': renew, 'password_verify': verify_password_plainly, 'password_hash': hash_password_plainly,
     **{name: lambda end, inner=f'{name}_with': without_options(end, inner)
        for name in ('verify_encoded', 'verify_raw', 'hash_raw', 'hash_encoded')}}
 
@@ -504,29 +327,6 @@ def see_limits(machine, path, call):
     """Keeps the limits that options name."""
     call.arguments['limits_address'] = bits(call.passed['options'], 8 * LIMITS, BITS)
     call.passed['limits'] = machine.load(path, call.limits_address, SIZES['proved_argon2_limits'])
-
-
-def end_interruptions(machine, path, call):
-    if len(path.calls('getrandom')) > INTERRUPTED:
-        path.conditions.append(call.result >= 0)
-
-
-def is_no_rehash(machine, path, call):
-    """No proved call that the driver makes returns this code, which the driver adds to a verdict."""
-    path.conditions.append(low(call.result) != code('NEEDS_REHASH'))
-
-
-def is_job_made(machine, path, call):
-    """A job is only made for tags of 4 bytes or more."""
-    is_no_rehash(machine, path, call)
-    length = bits(call.passed['settings'], 8 * SETTINGS - HALF, HALF)
-    path.conditions.append(z3.Implies(succeeded(call), z3.UGE(length, NUMBERS['MIN_HASH_LENGTH'])))
-
-
-KNOWN = {**{f'proved_argon2_{name}': is_no_rehash
-            for name in ('check', 'check_encoded', 'job_read', 'job_check', 'encode', *VERIFIES, *HASHES)},
-         'proved_argon2_job_make': is_job_made,
-         'proved_driver_memset': return_target, 'getrandom': end_interruptions}
 
 
 def bounded(machine, path, given):
@@ -548,33 +348,28 @@ def table_faults(code, name):
     return faults_of_table(machine, called, builds)
 
 
-def driver_of(code):
-    """What is shown of the driver's inner function."""
-    outside = {name: what for name, what in PROVED.items() if name != 'proved_argon2_memory_free'}
-    effects = {**KNOWN, 'fill': see_state}
-    return Driver(Engine(RUNS[code.number], code, {**outside, **SYSTEM, **INNER, **DRIVER}, effects))
-
-
 def call_faults(code, driver, name):
     """What is wrong with a call that hashes or verifies."""
     effects = {**KNOWN, **dict.fromkeys(DRIVER, driver.effect), 'proved_argon2_password_verify_with': see_limits}
-    machine, faults, may_succeed = Engine(RUNS[code.number], code, {**PROVED, **SYSTEM, **DRIVER}, effects), [], False
+    machine, faults, may_succeed = Engine(
+        RUNS[code.number], code, {**PROVED, **SYSTEM, **DRIVER}, effects, IMPORTS), [], False
     for path, given in machine.paths(f'proved_argon2_{name}', lambda *what: bounded(machine, *what)):
         end = End(machine, path, given)
         STATEMENTS[name](end)
+        end.judge_options(driver.used)
         faults += end.faults
         may_succeed |= end.may_succeed
     return faults + ['it never succeeds'] * (not may_succeed)
 
 
 def faults_of_verdicts(code, names=(*TABLE, 'compute', *STATEMENTS), driver=None):
-    """What is wrong in a linked library with the calls of these names, of which `compute` is the driver's. What is
-    known of the driver may be passed."""
+    """Returns the faults of these calls in a linked library. The name `compute` stands for the driver's inner function.
+    What is known of the driver may be passed."""
     faults = []
     for name in names:
         try:
             if driver is None and name not in TABLE:
-                driver = driver_of(code)
+                driver = Driver(code)
             found = table_faults(code, name) if name in TABLE else driver.faults if name == 'compute' else \
                 call_faults(code, driver, name)
         except Fault as fault:

@@ -20,7 +20,6 @@ from shared import TOP
 from terms import BITS, Fault, forget
 from validated import FLAGS, FUNCTIONS, IDLE, builds_of, code_of
 
-pytestmark = pytest.mark.timeout(3600)
 RELEASE, SEED = TOP / 'release', os.environ.get('SEED') or random.randrange(1 << 32)
 FILES = 'x86_64/libproved_argon2.a', 'aarch64/libproved_argon2.a', 'wasm32/proved_argon2.wasm'
 # This module has the same instructions, except for the numbers of the functions that are called.
