@@ -3,12 +3,11 @@
 their answers from outside. Without them `rt ci` would ask nothing, so CI writes them first.
 
 The questions are those of rows.txt, each a line with its answer behind a tab; those that are made here
-from BLAKE2b of hashlib, from rfc9106.py and around the default limits; and those of bindings/vectors. Its
-raw.txt has a line for each tag: variant, version, t, m, p, tag length, password, salt, secret and associated
-data (the last four in hexadecimal, - for empty), with single blanks between them, and behind the tenth blank
-the answer; if the salt is not UTF-8 text, and secret and data are empty, the tool is
-asked too. Its texts.txt has an encoded text, a tab, and the
-verdict on it for the password `password`. Nothing here runs the library.
+from BLAKE2b of hashlib and from rfc9106.py; and those of bindings/vectors. Its raw.txt has a line for each
+tag: variant, version, t, m, p, tag length, password, salt, secret and associated data (the last four in
+hexadecimal, - for empty), with single blanks between them, and behind the tenth blank the answer. Its
+texts.txt has an encoded text, a tab, and the verdict on it for the password `password`. Nothing here runs
+the library.
 """
 import base64
 import re
@@ -27,11 +26,6 @@ SPELLED = re.compile(
 # Byte number i is 7i + 3, modulo 251.
 MESSAGE = bytes((7 * i + 3) % 251 for i in range(300))
 INPUTS = "'password 'somesalt - -"
-# The tool's limits, the default ones: memory in KiB, passes, lanes, and memory times passes.
-# ABOVE is its message above them.
-MEMORY, PASSES, LANES, WORK = 2097152, 10, 16, 4194304
-ABOVE = r"The encoded hash is above the limits\ncheck and new take at most " \
-    r"2 GiB, 10 passes, 16 lanes and the work of 4 GiB in one pass\n"
 
 
 def lines_of(file):
@@ -110,51 +104,6 @@ def tags(file=OUTSIDE / "raw.txt"):
         yield " ".join(["hash_raw", *fields[:6], "all", *fields[6:]]), answer
 
 
-def runs():
-    """Runs of the tool with a salt that is no text, its digits in lower and in upper case in turn."""
-    count = 0
-    for line in lines_of(OUTSIDE / "raw.txt"):
-        variant, version, time, memory, lanes, length, password, salt, secret, data, answer = line.split(" ", 10)
-        if secret == data == "-" and salt != "-" and not is_text(bytes.fromhex(salt)):
-            count += 1
-            digits = salt.upper() if count % 2 else salt
-            words = f"new {variant} {version} {time} {memory} {lanes} {length} seq {digits}"
-            if int(time) > PASSES or int(memory) > MEMORY or int(lanes) > LANES or int(memory) * int(time) > WORK:
-                yield f"tool {password} {words}", f'5 "" "{ABOVE}"'
-                continue
-            yield f"tool {password} {words}", outcome(variant, version, memory, time, lanes, salt, answer)
-
-
-def limits():
-    """The tool at its limits, and just above each, with a salt that is too short."""
-    passes, memory = min(PASSES, WORK // MEMORY), min(MEMORY, WORK // PASSES)
-    for costs in ((MEMORY, passes, LANES), (memory, PASSES, LANES), (f"+000{MEMORY}", f"+00{passes}", f"+0{LANES}")):
-        yield from of_costs(*costs, r'2 "" "Salt is too short\n"')
-    for costs in ((MEMORY + 1, 1, LANES), (f"+{MEMORY + 1}", "01", 1), (8, PASSES + 1, LANES), (MEMORY, passes + 1, 1),
-                  (MEMORY, passes, LANES + 1), (memory + 1, PASSES, 1), (WORK // 3 + 1, "+03", 1)):
-        yield from of_costs(*costs, f'5 "" "{ABOVE}"')
-
-
-def of_costs(memory, time, lanes, answer):
-    """Both of the tool's commands that have limits."""
-    yield f"tool 'password new argon2id 19 {time} {memory} {lanes} 32 seq 00", answer
-    yield f"tool 'password check $argon2id$v=19$m={memory},t={time},p={lanes}$$c29tZWhhc2g", answer
-
-
-def is_text(salt):
-    try:
-        return bool(salt.decode())
-    except UnicodeDecodeError:
-        return False
-
-
-def outcome(variant, version, memory, time, lanes, salt, answer):
-    """Returns what comes of a run that hashes: status, output and error stream."""
-    if answer.startswith("ERR "):
-        return f'2 "" "{answer[4:]}\\n"'
-    return f'0 "{answer}\\n{spelled(variant, version, memory, time, lanes, salt, answer)}\\n" ""'
-
-
 def spelled(variant, version, memory, time, lanes, salt, tag):
     """An encoded text, of the digits of a salt and a tag."""
     items = "$".join(base64.b64encode(bytes.fromhex(digits)).decode().rstrip("=") for digits in (salt, tag))
@@ -179,7 +128,7 @@ def verdicts():
 
 def questions():
     """All questions, each with its answer."""
-    makers = (rows, limits, hashes, stretched_hashes, first_inputs, references, tags, runs, verdicts)
+    makers = (rows, hashes, stretched_hashes, first_inputs, references, tags, verdicts)
     return [pair for maker in makers for pair in maker()]
 
 

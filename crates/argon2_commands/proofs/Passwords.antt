@@ -12,7 +12,7 @@ use Rattle.argon2_standard.specs.Standard.Decoded.{decoded_config}
 use Rattle.argon2_standard.specs.Standard.Outcome.{IsResourceError, IsVerdict}
 use Rattle.argon2_standard.specs.Standard.SettingsTable.{first_that_applies, max_lanes, max_length, min_memory, table_error, settings_table}
 use Rattle.argon2_standard.specs.Standard.ThreadModes.{may_lack_workers}
-use Rattle.argon2_commands.specs.Answer.{HashAnswers, IsPassword, IsHashError, IsShortPassword, IsTooLong, VerifyAnswers, longest_password}
+use Rattle.argon2_commands.specs.Answer.{HashAnswers, IsPassword, IsHashError, VerifyAnswers}
 use Rattle.std.specs.Prelude.{IsUtf8, slice_get}
 use Rattle.std.specs.declared.alloc.Global.{Global}
 use Rattle.std.proofs.lemmas.Option.{get_or_from_slice_get, slice_get_cases, slice_get_within}
@@ -117,25 +117,6 @@ pub verify_of_input : (encoded : List ℕ) (result : Result Bool Error) (input :
     → VerifyAnswers encoded password result → OfInput input (λ p. VerifyAnswers encoded p result)
 verify_of_input encoded result input password read h =
     of_input (λ p. VerifyAnswers encoded p result) input password read (λ bytes enough. verify_of_all encoded result password bytes enough) h
-
--- ---- a password that was read up to the longest of `new` and `check`
-
--- if the bytes that were read are short enough, they are the whole input
-pub short_is_all : (input : Option (List ℕ)) (password : List ℕ) → IfSome input (λ bytes. password ≡ take (longest_password + 1) bytes)
-    → length password ≤ longest_password → IsShortPassword input password
-short_is_all None password read short = (tt, short)
-short_is_all (Some bytes) password read short =
-    let taken : length password ≡ min (longest_password + 1) (length bytes) = ap length read ∙ length-take (longest_password + 1) bytes in
-    (read ∙ take_all (longest_password + 1) bytes (omega (arith, taken, short)), short)
-
--- if the bytes that were read are more than `longest_password`, the input is too long
-pub long_is_more : (input : Option (List ℕ)) (password : List ℕ) → IfSome input (λ bytes. password ≡ take (longest_password + 1) bytes)
-    → longest_password < length password → IsTooLong input
-long_is_more None password read long = tt
-long_is_more (Some bytes) password read long =
-    let taken : length password ≡ min (longest_password + 1) (length bytes) = ap length read ∙ length-take (longest_password + 1) bytes in
-    let few = min-le_right (longest_password + 1) (length bytes) in
-    omega (arith, taken, long, few)
 
 -- ---- one read after another
 

@@ -3,24 +3,14 @@ use Rattle.std.specs.Prelude.{ℕ, List, [], ◌++◌, codes, ⊤}
 use Rattle.argon2_standard.specs.Views.Messages.{message_of}
 use Rattle.argon2_commands.specs.declared.fault.Fault.{Fault}
 use Rattle.argon2_standard.specs.declared.error.Error.TheVariants.{OutOfMemory}
-use Rattle.argon2.specs.Views.Limits.{message_of as unverified_text}
-use Rattle.argon2.specs.declared.limits.Unverified.{Unverified}
-use Rattle.argon2.specs.declared.limits.Unverified.TheVariants.{TooCostly as UnverifiedTooCostly, Refused as UnverifiedRefused}
-use Rattle.argon2_commands.specs.declared.fault.Fault.TheVariants.{Usage, Input, Refused, TooCostly, Output, OutputShort}
+use Rattle.argon2_commands.specs.declared.fault.Fault.TheVariants.{Usage, Input, Refused, Output, OutputShort}
 
--- the fault of a text that was not verified within limits
-abbrev pub fault_of : Unverified → Fault
-fault_of UnverifiedTooCostly = TooCostly
-fault_of (UnverifiedRefused error) = Refused error
-
--- 2 for an error and for lack of memory, 3 for a usage error, 4 if a stream failed for another reason,
--- 5 for an encoded hash above the limits
+-- 2 for an error and for lack of memory, 3 for a usage error, 4 if a stream failed for another reason
 abbrev pub fault_status : Fault → ℕ
 fault_status (Refused error) = 2
 fault_status Usage = 3
 fault_status Input = 4
 fault_status Output = 4
-fault_status TooCostly = 5
 fault_status OutputShort = 2
 
 -- nothing was written before the fault
@@ -28,7 +18,6 @@ abbrev pub IsBeforeOutput : Fault → Type 0
 IsBeforeOutput (Refused error) = ⊤
 IsBeforeOutput Usage = ⊤
 IsBeforeOutput Input = ⊤
-IsBeforeOutput TooCostly = ⊤
 IsBeforeOutput Output = ⊥
 IsBeforeOutput OutputShort = ⊥
 
@@ -37,6 +26,5 @@ abbrev pub line_of : Fault → List ℕ
 line_of (Refused error) = message_of error ++ codes "\n"
 line_of Usage = codes "usage\n"
 line_of Input = codes "input\n"
-line_of TooCostly = unverified_text UnverifiedTooCostly ++ codes "\n"
 line_of Output = []
 line_of OutputShort = message_of OutOfMemory ++ codes "\n"

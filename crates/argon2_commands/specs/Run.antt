@@ -1,16 +1,11 @@
--- A run of a program, and what it writes.
+-- A run of the program, and what it writes.
 use Rattle.std.specs.Prelude.{◌≡◌, ◌⊎◌, ℕ, List, Option, take}
 use Rattle.std.specs.Io.KnownBytes.{Appends, Keeps}
-use Rattle.argon2_commands.specs.Answer.{AsksTooMuch, IsAnswer, MayBeError, NeedsNoInput, ReadsUpTo, answer_status, lines_of, most_read}
+use Rattle.argon2_commands.specs.Answer.{IsAnswer, MayBeError, NeedsNoInput, ReadsUpTo, answer_status, lines_of, most_read}
 use Rattle.argon2_commands.specs.Words.{AreWords, IsCommand, IsNoCommand}
 use Rattle.argon2_standard.specs.declared.error.Error.{Error}
-use Rattle.argon2_standard.specs.declared.error.Error.TheVariants.{OutOfMemory, PwdTooLong}
-use Rattle.argon2_commands.specs.declared.fault.Fault.{Fault}
-use Rattle.argon2_commands.specs.declared.fault.Fault.TheVariants.{Input, Refused, TooCostly}
 use Rattle.argon2_commands.specs.declared.answer.Answer.{Answer}
 use Rattle.argon2_commands.specs.declared.command.Command.{Command}
-use Rattle.argon2_commands.specs.declared.usage.Program.{Program}
-use Rattle.argon2_commands.specs.declared.usage.Program.TheVariants.{Argon2, Tool}
 
 -- ---- what was written to a writer that may fail
 
@@ -22,74 +17,58 @@ AppendsFront before after bytes = (count : ℕ) × Appends before after (take co
 
 -- the status is that of the command's answer, whose lines were written. If known, `input` is the
 -- input before the run, and `before` and `after` are the output before and after it
-pub record Answered (program : Program) (words : List (List ℕ)) (input before after : Option (List ℕ)) (status : ℕ) : Type 0 where
+pub record Answered (words : List (List ℕ)) (input before after : Option (List ℕ)) (status : ℕ) : Type 0 where
   pub command : Command
   pub answer : Answer
-  pub is_command : IsCommand program words command
+  pub is_command : IsCommand words command
   pub is_answer : IsAnswer command input answer
   pub is_status : status ≡ answer_status answer
   pub is_written : Appends before after (lines_of answer)
 
 -- the words' command has an answer
-pub record HasAnswer (program : Program) (words : List (List ℕ)) (input : Option (List ℕ)) : Type 0 where
+pub record HasAnswer (words : List (List ℕ)) (input : Option (List ℕ)) : Type 0 where
   pub command : Command
   pub answer : Answer
-  pub is_command : IsCommand program words command
+  pub is_command : IsCommand words command
   pub is_answer : IsAnswer command input answer
 
 -- the words' command may fail with this error, judged by the input's bytes if they are known
-pub record MayFailWith (program : Program) (words : List (List ℕ)) (input : Option (List ℕ)) (error : Error) : Type 0 where
+pub record MayFailWith (words : List (List ℕ)) (input : Option (List ℕ)) (error : Error) : Type 0 where
   pub command : Command
-  pub is_command : IsCommand program words command
+  pub is_command : IsCommand words command
   pub may_fail : MayBeError command input error
 
--- the words' command is `check` of a string above a default limit, or `new` with settings above one
-pub record AreTooCostly (program : Program) (words : List (List ℕ)) : Type 0 where
-  pub command : Command
-  pub is_command : IsCommand program words command
-  pub asks_too_much : AsksTooMuch command
-
--- `TooCostly`, the fault of a command that asks too much, or a fault that is reported before it because the password
--- could not be read
-abbrev pub MayPrecede : Fault → Type 0
-MayPrecede fault = (fault ≡ TooCostly) ⊎ ((fault ≡ Input) ⊎ ((fault ≡ Refused OutOfMemory) ⊎ (fault ≡ Refused PwdTooLong)))
-
 -- the words are a command that needs no input, or no command
-abbrev pub NeedNoInput : Program → List (List ℕ) → Type 0
-NeedNoInput program words = (command : Command) → IsCommand program words command → NeedsNoInput command
+abbrev pub NeedNoInput : List (List ℕ) → Type 0
+NeedNoInput words = (command : Command) → IsCommand words command → NeedsNoInput command
 
 -- the words are those of a command, and no more bytes of an input were read than this command can need
-pub record ReadsFor (program : Program) (words : List (List ℕ)) (before after : Option (List ℕ)) : Type 0 where
+pub record ReadsFor (words : List (List ℕ)) (before after : Option (List ℕ)) : Type 0 where
   pub command : Command
-  pub is_command : IsCommand program words command
+  pub is_command : IsCommand words command
   pub stops : ReadsUpTo (most_read command) before after
 
 -- the same, or the words are no command and nothing was read
-abbrev pub Reads : Program → List (List ℕ) → Option (List ℕ) → Option (List ℕ) → Type 0
-Reads program words before after = ReadsFor program words before after ⊎ (IsNoCommand program words × Keeps before after)
-
--- the statuses of a run are below this
-abbrev pub statuses_of : Program → ℕ
-statuses_of Argon2 = 5
-statuses_of Tool = 6
+abbrev pub Reads : List (List ℕ) → Option (List ℕ) → Option (List ℕ) → Type 0
+Reads words before after = ReadsFor words before after ⊎ (IsNoCommand words × Keeps before after)
 
 -- the words' command may fail, and nothing was written; or it has an answer, and the output lacked
 -- memory for all of it. The status is the same in both cases; the fault differs
-abbrev pub IsShortOrFails : Program → List (List ℕ) → Option (List ℕ) → Option (List ℕ) → Option (List ℕ) → Type 0
-IsShortOrFails program words input before after =
-    (((error : Error) × MayFailWith program words input error) × Keeps before after) ⊎ HasAnswer program words input
+abbrev pub IsShortOrFails : List (List ℕ) → Option (List ℕ) → Option (List ℕ) → Option (List ℕ) → Type 0
+IsShortOrFails words input before after =
+    (((error : Error) × MayFailWith words input error) × Keeps before after) ⊎ HasAnswer words input
 
 -- a front of the lines of the command's answer was written, and nothing else
-pub record WritesFront (program : Program) (words : List (List ℕ)) (input before after : Option (List ℕ)) : Type 0 where
+pub record WritesFront (words : List (List ℕ)) (input before after : Option (List ℕ)) : Type 0 where
   pub command : Command
   pub answer : Answer
-  pub is_command : IsCommand program words command
+  pub is_command : IsCommand words command
   pub is_answer : IsAnswer command input answer
   pub is_front : AppendsFront before after (lines_of answer)
 
 -- the same, or nothing was written
-abbrev pub WritesAnswer : Program → List (List ℕ) → Option (List ℕ) → Option (List ℕ) → Option (List ℕ) → Type 0
-WritesAnswer program words input before after = Keeps before after ⊎ WritesFront program words input before after
+abbrev pub WritesAnswer : List (List ℕ) → Option (List ℕ) → Option (List ℕ) → Option (List ℕ) → Type 0
+WritesAnswer words input before after = Keeps before after ⊎ WritesFront words input before after
 
 -- P holds of the words of the command line if its arguments are known, and otherwise of some words
 abbrev pub OfWords : Option (List (List ℕ)) → (List (List ℕ) → Type 0) → Type 0

@@ -1,19 +1,16 @@
 -- The words of a command line.
-use Rattle.std.specs.Prelude.{◌≡◌, ℕ, ◌<◌, ◌^◌, List, [], ◌++◌, codes, length, map, slice_index_or, string_bytes, Ok, Option, Some, IfSome, IsUtf8}
+use Rattle.std.specs.Prelude.{◌≡◌, ℕ, ◌<◌, ◌^◌, List, [], ◌++◌, codes, length, map, slice_index_or, string_bytes, Option, Some, IfSome, IsUtf8}
 use Rattle.std.specs.Prelude.{Vec, drop, option_map, slice_get}
 use Rattle.std.specs.Str.Parse.{IsNumeral, digits_value, without_leading_plus}
 use Rattle.std.specs.declared.alloc.Global.{Global}
 use Rattle.std.specs.declared.string.String.{String}
-use Rattle.hex.specs.Hex.{decode_of}
 use Rattle.argon2_standard.specs.Standard.Variant.{IsName}
 use Rattle.argon2_standard.specs.Standard.Version.{version_text}
 use Rattle.argon2_standard.specs.declared.config.Config.{Config}
 use Rattle.argon2_standard.specs.declared.thread_mode.ThreadMode.{ThreadMode}
 use Rattle.argon2_standard.specs.declared.thread_mode.ThreadMode.TheVariants.{Sequential, Parallel, AtMost}
 use Rattle.argon2_commands.specs.declared.command.Command.{Command}
-use Rattle.argon2_commands.specs.declared.command.Command.TheVariants.{Hash, Verify, Rehash, New, Check}
-use Rattle.argon2_commands.specs.declared.usage.Program.{Program}
-use Rattle.argon2_commands.specs.declared.usage.Program.TheVariants.{Argon2, Tool}
+use Rattle.argon2_commands.specs.declared.command.Command.TheVariants.{Hash, Verify, Rehash}
 
 -- ---- how the words of a command are read
 
@@ -49,7 +46,7 @@ pub record AreSettings (words : List (List ℕ)) (config : Config) : Type 0 wher
   pub secret : config.secret.now ≡ []
   pub ad : config.ad.now ≡ []
 
--- ---- the words of both programs
+-- ---- the words of each command
 
 -- hash VARIANT VERSION T M P LEN MODE SALT
 pub record IsHash (words : List (List ℕ)) (config : Config) (salt : List ℕ) : Type 0 where
@@ -73,42 +70,17 @@ pub record IsRehash (words : List (List ℕ)) (config : Config) (encoded : List 
   pub mode : config.thread_mode ≡ Sequential
   pub text : encoded ≡ word words 7
 
--- ---- the words of the tool alone
+-- the words are those of the command
+abbrev pub IsCommand : List (List ℕ) → Command → Type 0
+IsCommand words (Hash config salt) = IsHash words config salt.now
+IsCommand words (Verify encoded) = IsVerify words encoded.now
+IsCommand words (Rehash config encoded) = IsRehash words config encoded.now
 
--- new VARIANT VERSION T M P LEN MODE DIGITS: the salt in hexadecimal, two digits of either case for each byte
-pub record IsNew (words : List (List ℕ)) (config : Config) (salt : List ℕ) : Type 0 where
-  pub count : length words ≡ 9
-  pub name : word words 0 ≡ codes "new"
-  pub settings : AreSettings words config
-  pub mode : IsMode (word words 7) config.thread_mode
-  pub salted : decode_of (word words 8) ≡ Ok salt
+-- the words are those of no command
+abbrev pub IsNoCommand : List (List ℕ) → Type 0
+IsNoCommand words = (command : Command) → IsCommand words command → ⊥
 
--- check TEXT
-pub record IsCheck (words : List (List ℕ)) (encoded : List ℕ) : Type 0 where
-  pub count : length words ≡ 2
-  pub name : word words 0 ≡ codes "check"
-  pub text : encoded ≡ word words 1
-
--- ---- a program
-
--- the words are those of the command, for the program
-abbrev pub IsCommand : Program → List (List ℕ) → Command → Type 0
-IsCommand Argon2 words (Hash config salt) = IsHash words config salt.now
-IsCommand Argon2 words (Verify encoded) = IsVerify words encoded.now
-IsCommand Argon2 words (Rehash config encoded) = IsRehash words config encoded.now
-IsCommand Argon2 words (New config salt) = ⊥
-IsCommand Argon2 words (Check encoded) = ⊥
-IsCommand Tool words (Hash config salt) = IsHash words config salt.now
-IsCommand Tool words (Verify encoded) = IsVerify words encoded.now
-IsCommand Tool words (Rehash config encoded) = IsRehash words config encoded.now
-IsCommand Tool words (New config salt) = IsNew words config salt
-IsCommand Tool words (Check encoded) = IsCheck words encoded.now
-
--- the words are those of no command of the program
-abbrev pub IsNoCommand : Program → List (List ℕ) → Type 0
-IsNoCommand program words = (command : Command) → IsCommand program words command → ⊥
-
--- ---- the arguments that a program is started with, where they are known
+-- ---- the arguments that the program is started with, where they are known
 
 -- what was found is the argument at the index, or none past the last
 abbrev pub IsArgument : Option (List (List ℕ)) → ℕ → Option (Vec ℕ Global) → Type 0

@@ -1,27 +1,23 @@
 //! What a command prints and returns.
 
-ghost use Rattle.std.specs.Prelude.{◌≡◌, [], IfErr, IfOk, IsNone, OnOk, length, string_bytes};
+ghost use Rattle.std.specs.Prelude.{◌≡◌, IfErr, IfOk, IsNone, OnOk, length, string_bytes};
 ghost use Rattle.std.specs.Io.KnownBytes.{Keeps};
-ghost use Rattle.argon2.specs.Standard.Limits.{is_too_costly};
-ghost use Rattle.argon2_standard.specs.Standard.Text.{spelled_of};
 ghost use Rattle.argon2_standard.specs.Standard.Outcome.{IsResourceError};
 ghost use Rattle.argon2_standard.specs.Standard.ThreadModes.{may_lack_workers};
 ghost use Rattle.argon2_standard.specs.Standard.SettingsTable.{table_error};
-ghost use Rattle.argon2_commands.specs.Answer.{CheckAnswers, IsAnswer, IsHashError, MayFail, NeedsNoInput, NewAnswers, NewFails, ReadsUpTo, answer_status, hash_lines, lines_of, most_read};
+ghost use Rattle.argon2_commands.specs.Answer.{IsAnswer, IsHashError, MayFail, NeedsNoInput, ReadsUpTo, answer_status, hash_lines, lines_of, most_read};
 
 use crate::command::Command;
 use crate::fault::Fault;
-use crate::password::{read_password, read_short_password};
-use crate::salt::Salt;
+use crate::password::read_password;
 use argon2::parts::context::Context;
 use argon2::parts::encoding::encode_string;
 use argon2::parts::fill::tag;
 use argon2::parts::memory::{Memory, release};
-use argon2::{Config, Limits, Unverified, needs_rehash, verify_encoded, verify_encoded_within};
+use argon2::{Config, needs_rehash, verify_encoded};
 use std::alloc::Global;
 use std::io::Read;
 use std::marker::Sync;
-use std::result;
 use std::sync::Wait;
 use std::thread::Threads;
 
@@ -60,23 +56,11 @@ impl Answer {
             }
             Command::Verify { encoded } => {
                 let password = read_password(alloc, input)?;
-                // `verify` has no limits: like the library's call of this name, it verifies every
-                // hash.
                 let verdict = verify_encoded(rt, alloc, encoded, password.as_slice())?;
                 Ok(Answer::Verdict(verdict))
             }
             Command::Rehash { config, encoded } => {
                 Ok(Answer::Verdict(needs_rehash(alloc, encoded, config)?))
-            }
-            Command::New { config, salt } => {
-                let password = read_short_password(alloc, input)?;
-                let lines = new_lines(rt, alloc, password.as_slice(), salt, *config)?;
-                Ok(Answer::Hashed(lines))
-            }
-            Command::Check { encoded } => {
-                let password = read_short_password(alloc, input)?;
-                let verdict = verify_within(rt, alloc, encoded, password.as_slice())?;
-                Ok(Answer::Verdict(verdict))
             }
         }
     }
@@ -101,19 +85,6 @@ impl Answer {
             Answer::Verdict(false) => 1,
         }
     }
-}
-
-/// Whether a password matches an encoded hash that is within the default limits.
-fn verify_within<R: Threads + Wait + Sync>(
-    rt: &R,
-    alloc: Global,
-    encoded: &str,
-    password: &[u8],
-) -> result::Result<bool, Unverified>
-    ensures { CheckAnswers encoded.now password.now result }
-{
-    let limits = Limits::default();
-    verify_encoded_within(rt, alloc, encoded, password, &[], &[], &limits)
 }
 
 /// The tag of an accepted call in lower-case hexadecimal and its encoded hash, a line each. It
@@ -154,30 +125,4 @@ fn hash_lines<R: Threads + Wait + Sync>(
         Ok(context) => tag_lines(rt, alloc, &context),
         Err(error) => Err(error),
     }
-}
-
-/// The lines of `hash_lines`, if the encoded hash is within the default limits.
-fn new_lines<R: Threads + Wait + Sync>(
-    rt: &R,
-    alloc: Global,
-    password: &[u8],
-    salt: &Salt<'_>,
-    config: Config<'_>,
-) -> Result<String, Fault>
-    ensures lines { IfOk result (λ lines. NewAnswers config.entry salt.now password.now
-        (string_bytes lines)) }
-    ensures fault { IfErr result (NewFails config.entry salt.now password.now) }
-{
-    if is_above(&config, &Limits::default()) {
-        return Err(Fault::TooCostly);
-    }
-    let salt = salt.to_bytes(alloc)?;
-    Ok(hash_lines(rt, alloc, password, salt.as_slice(), config)?)
-}
-
-/// Whether an encoded hash with these settings is above a limit.
-fn is_above(config: &Config<'_>, limits: &Limits) -> bool
-    ensures { result ≡ is_too_costly limits.now (spelled_of config.now [] []) }
-{
-    limits.are_exceeded_by(config.mem_cost, config.time_cost, config.lanes)
 }

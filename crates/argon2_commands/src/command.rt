@@ -1,17 +1,15 @@
 //! The commands, and how they are read from the arguments.
 
-ghost use Rattle.std.specs.Prelude.{◌≡◌, ◌<◌, ◌≤◌, length, IfErr, IfOk};
-ghost use Rattle.hex.specs.Hex.{decode_of};
+ghost use Rattle.std.specs.Prelude.{◌≡◌, ◌<◌, ◌≤◌, length, MatchOption};
 ghost use Rattle.argon2_standard.specs.declared.thread_mode.ThreadMode.{ThreadMode};
-ghost use Rattle.argon2_commands.specs.Usage.{AreRight, Fits, IsUsageError, SettingsFit};
+ghost use Rattle.argon2_commands.specs.Usage.{AreRight, Fits, SettingsFit};
 ghost use Rattle.argon2_commands.specs.Words.{AreSettings, IsCommand, IsMode, IsNoCommand, IsNumber, texts_of, word};
-ghost use Rattle.argon2_commands.specs.declared.usage.Kind.TheVariants.{Digits, Mode, Number};
+ghost use Rattle.argon2_commands.specs.declared.usage.Kind.TheVariants.{Mode, Number};
 
-use crate::salt::Salt;
-use crate::usage::{Name, Program, UsageError, mode_of, number_of};
+use crate::usage::{Name, mode_of, number_of};
 use argon2::{Config, ThreadMode, Variant, Version};
 
-/// What a program does.
+/// What the program does.
 #[derive(Debug, Drop)]
 pub enum Command<'a> {
     /// `hash VARIANT VERSION T M P LEN MODE SALT`: the tag of the password, and its encoded hash.
@@ -32,48 +30,25 @@ pub enum Command<'a> {
         config: Config<'a>,
         encoded: &'a str,
     },
-
-    /// `new VARIANT VERSION T M P LEN MODE DIGITS`: as `hash`, with a salt in hexadecimal, if
-    /// `check` accepts the encoded hash.
-    New {
-        config: Config<'a>,
-        salt: Salt<'a>,
-    },
-
-    /// `check TEXT`: as `verify`, if the encoded hash is within the default limits.
-    Check {
-        encoded: &'a str,
-    },
 }
 
 impl<'a> Command<'a> {
-    /// The program's command that these arguments name, or what is wrong with them. The program's
-    /// own name is not among them.
-    #[tactic(auto, using(crate::proofs::UsageErrors::no_command))]
-    pub fn from_words(program: Program, words: &'a [String]) -> Result<Command<'a>, UsageError>
-        ensures command { IfOk result (IsCommand program (texts_of words.now)) }
-        ensures usage { IfErr result (IsUsageError program (texts_of words.now)) }
-        ensures none { IfErr result (λ _. IsNoCommand program (texts_of words.now)) }
+    /// The command that these arguments name, if they are one. The program's own name is not among
+    /// them.
+    pub fn from_words(words: &'a [String]) -> Option<Command<'a>>
+        ensures { MatchOption result (IsNoCommand (texts_of words.now))
+            (IsCommand (texts_of words.now)) }
     {
-        match UsageError::check(program, words) {
-            Ok(name) => Ok(Command::of_right(program, name, words)),
-            Err(error) => Err(error),
-        }
+        let name = Name::of_words(words)?;
+        Some(Command::of_right(name, words))
     }
 
     /// The command that these arguments name. They were checked to be right.
-    fn of_right(program: Program, name: Name, words: &'a [String]) -> Command<'a>
-        requires { AreRight program (texts_of words.now) name }
-        ensures { IsCommand program (texts_of words.now) result }
+    fn of_right(name: Name, words: &'a [String]) -> Command<'a>
+        requires { AreRight (texts_of words.now) name }
+        ensures { IsCommand (texts_of words.now) result }
     {
         match name {
-            Name::New => Command::New {
-                config: settings_at(words, mode_at(words)),
-                salt: salt_at(words),
-            },
-            Name::Check => Command::Check {
-                encoded: words[1].as_str(),
-            },
             Name::Hash => Command::Hash {
                 config: settings_at(words, mode_at(words)),
                 salt: words[8].as_str(),
@@ -117,15 +92,6 @@ fn mode_at(words: &[String]) -> ThreadMode
     ensures { IsMode (word (texts_of words.now) 7) result }
 {
     mode_of(words[7].as_str()).unwrap()
-}
-
-/// The salt that the argument `DIGITS` encodes. It was checked to be pairs.
-fn salt_at(words: &[String]) -> Salt<'_>
-    requires count { 8 < length words.now }
-    requires fits { Fits Digits (word (texts_of words.now) 8) }
-    ensures { decode_of (word (texts_of words.now) 8) ≡ Ok result }
-{
-    Salt::from_digits(words[8].as_str()).unwrap()
 }
 
 /// The number in the argument at a place, which was checked to be one.

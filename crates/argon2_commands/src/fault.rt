@@ -4,10 +4,10 @@ ghost use Rattle.std.specs.Prelude.{◌≡◌, ◌≢◌, OnOk};
 ghost use Rattle.std.specs.IoError.{error_kind};
 ghost use Rattle.std.specs.Io.KnownBytes.{Appends};
 ghost use Rattle.argon2_standard.specs.declared.error.Error.TheVariants.{OutOfMemory};
-ghost use Rattle.argon2_commands.specs.Fault.{fault_of, fault_status, line_of};
+ghost use Rattle.argon2_commands.specs.Fault.{fault_status, line_of};
 ghost use Rattle.argon2_commands.specs.declared.fault.Fault.TheVariants.{Refused};
 
-use argon2::{Error, Unverified};
+use argon2::Error;
 use std::alloc::{AllocError, AllocFailed};
 use std::io;
 use std::io::{ErrorKind, Write};
@@ -23,9 +23,6 @@ pub enum Fault {
 
     /// The call returned this error, or memory was denied before there was a result.
     Refused(Error),
-
-    /// The encoded hash is above the limits.
-    TooCostly,
 
     /// The result could not be written.
     Output,
@@ -48,7 +45,7 @@ impl Fault {
     }
 
     /// The exit status: 2 for an error of the call and for lack of memory, 3 for wrong arguments, 4
-    /// where a stream failed for another reason, 5 for an encoded hash above the limits.
+    /// where a stream failed for another reason.
     pub fn status(&self) -> u8
         ensures { result ≡ fault_status self.now }
     {
@@ -56,7 +53,6 @@ impl Fault {
             Fault::Refused(_) | Fault::OutputShort => 2,
             Fault::Usage => 3,
             Fault::Input | Fault::Output => 4,
-            Fault::TooCostly => 5,
         }
     }
 
@@ -78,10 +74,6 @@ impl Fault {
             Fault::Usage => errors.write_all(b"usage\n")?,
             Fault::Input => errors.write_all(b"input\n")?,
             Fault::Refused(error) => writeln!(errors, "{error}")?,
-            Fault::TooCostly => {
-                let reason = Unverified::TooCostly;
-                writeln!(errors, "{reason}")?;
-            }
             Fault::OutputShort => {
                 let error = Error::OutOfMemory;
                 writeln!(errors, "{error}")?;
@@ -97,17 +89,6 @@ impl From<Error> for Fault {
 
     fn from(error: Error) -> Fault {
         Fault::Refused(error)
-    }
-}
-
-impl From<Unverified> for Fault {
-    ghost from_gives = { λ unverified fault. fault ≡ fault_of unverified };
-
-    fn from(unverified: Unverified) -> Fault {
-        match unverified {
-            Unverified::TooCostly => Fault::TooCostly,
-            Unverified::Refused(error) => Fault::Refused(error),
-        }
     }
 }
 

@@ -1,9 +1,9 @@
 //! How a password is read from the input.
 
-ghost use Rattle.std.specs.Prelude.{◌≡◌, ◌⊎◌, ◌≤◌, ◌+◌, IfErr, IfOk, IfSome, length, take};
-ghost use Rattle.argon2_standard.specs.declared.error.Error.TheVariants.{OutOfMemory, PwdTooLong};
+ghost use Rattle.std.specs.Prelude.{◌≡◌, ◌⊎◌, ◌+◌, IfErr, IfOk, IfSome, take};
+ghost use Rattle.argon2_standard.specs.declared.error.Error.TheVariants.{OutOfMemory};
 ghost use Rattle.argon2_standard.specs.Standard.SettingsTable.{max_length};
-ghost use Rattle.argon2_commands.specs.Answer.{IsShortPassword, IsTooLong, ReadsUpTo, longest_password};
+ghost use Rattle.argon2_commands.specs.Answer.{ReadsUpTo};
 
 use crate::fault::Fault;
 use argon2::Error;
@@ -11,10 +11,6 @@ use argon2::parts::common::MAX_PWD_LENGTH;
 use std::alloc::Global;
 use std::io;
 use std::io::{ErrorKind, Read};
-
-/// The longest password that `new` and `check` take, in bytes: far more than anybody types, and
-/// little memory for an input without end.
-pub const LONGEST_PASSWORD: usize = 65536;
 
 // What is read at a time, in bytes.
 const PIECE: usize = 4096;
@@ -30,23 +26,6 @@ pub(crate) fn read_password<I: Read>(alloc: Global, input: &mut I) -> Result<Vec
     ensures stops { ReadsUpTo (max_length + 1) (I.remaining input.old) (I.remaining input.new) }
 {
     read_up_to(alloc, input, MAX_PWD_LENGTH as usize + 1)
-}
-
-/// All of the input, where that is no longer than the longest password of `new` and `check`.
-pub(crate) fn read_short_password<I: Read>(alloc: Global, input: &mut I) -> Result<Vec<u8>, Fault>
-    ensures bytes { IfOk result (λ password. IsShortPassword (I.remaining input.old)
-        password.items) }
-    ensures fault { IfErr result (λ fault. (fault ≡ Fault.Input)
-        ⊎ ((fault ≡ Fault.Refused OutOfMemory)
-        ⊎ ((fault ≡ Fault.Refused PwdTooLong) × IsTooLong (I.remaining input.old)))) }
-    ensures stops { ReadsUpTo (longest_password + 1) (I.remaining input.old)
-        (I.remaining input.new) }
-{
-    let password = read_up_to(alloc, input, LONGEST_PASSWORD + 1)?;
-    if password.len() > LONGEST_PASSWORD {
-        return Err(Fault::Refused(Error::PwdTooLong));
-    }
-    Ok(password)
 }
 
 /// Reads the input up to `most` bytes, or to its end. A reader's lack of memory is reported

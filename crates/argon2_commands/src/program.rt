@@ -1,15 +1,13 @@
-//! Where both programs begin: `start` with a command line, `run` with its arguments.
+//! Where the program begins: `start` with a command line, `run` with its arguments.
 
 ghost use Rattle.std.specs.Prelude.{◌≡◌, ◌<◌, ◌↔◌, ◌⊎◌};
 ghost use Rattle.std.specs.Process.{exit_status};
 ghost use Rattle.std.specs.Io.KnownBytes.{Keeps};
 ghost use Rattle.argon2_commands.specs.Words.{HasNoText, IsNoCommand, texts_of};
-ghost use Rattle.argon2_commands.specs.Run.{Answered, AreTooCostly, HasAnswer, IsShortOrFails, NeedNoInput, OfWords, Reads, WritesAnswer, statuses_of};
-ghost use Rattle.argon2_commands.specs.declared.usage.Program.TheVariants.{Argon2};
+ghost use Rattle.argon2_commands.specs.Run.{Answered, HasAnswer, IsShortOrFails, NeedNoInput, OfWords, Reads, WritesAnswer};
 
 use crate::command_line::{CommandLine, arguments};
-use crate::runs::conclude;
-use crate::usage::{Program, report_fault};
+use crate::runs::attempt;
 use argon2::parts::memory::wipe_stack;
 use std::alloc::Global;
 use std::io::{Read, Write};
@@ -18,39 +16,36 @@ use std::process::ExitCode;
 use std::sync::Wait;
 use std::thread::Threads;
 
-/// Runs a program on a command line, and exits with the run's status. Arguments that are not UTF-8
+/// Runs the program on a command line, and exits with the run's status. Arguments that are not UTF-8
 /// are a usage error.
 pub fn start<R: Threads + Wait + Sync, L: CommandLine, I: Read, O: Write, E: Write>(
     rt: &R,
     alloc: Global,
-    program: Program,
     line: &L,
     input: &mut I,
     output: &mut O,
     errors: &mut E,
 ) -> ExitCode
-    ensures bounded { exit_status result < statuses_of program }
+    ensures bounded { exit_status result < 5 }
     ensures answered { exit_status result < 2 → OfWords (L.arguments line.now) (λ words.
-        Answered program words (I.remaining input.old) (O.contents output.old) (O.contents output.new)
+        Answered words (I.remaining input.old) (O.contents output.old) (O.contents output.new)
         (exit_status result)) }
     ensures usage { exit_status result ≡ 3 → HasNoText (L.arguments line.now)
-        ⊎ OfWords (L.arguments line.now) (IsNoCommand program) }
+        ⊎ OfWords (L.arguments line.now) IsNoCommand }
     ensures refused { exit_status result ≡ 2 → Keeps (O.contents output.old) (O.contents output.new)
-        ⊎ OfWords (L.arguments line.now) (λ words. HasAnswer program words (I.remaining input.old)) }
-    ensures costly { exit_status result ≡ 5 → Keeps (O.contents output.old) (O.contents output.new)
-        × OfWords (L.arguments line.now) (AreTooCostly program) }
+        ⊎ OfWords (L.arguments line.now) (λ words. HasAnswer words (I.remaining input.old)) }
     ensures unwritten { exit_status result ≡ 3
         → Keeps (O.contents output.old) (O.contents output.new) }
-    ensures written { OfWords (L.arguments line.now) (λ words. WritesAnswer program words
+    ensures written { OfWords (L.arguments line.now) (λ words. WritesAnswer words
         (I.remaining input.old) (O.contents output.old) (O.contents output.new)) }
     ensures silent { exit_status result < 2
         → Keeps (E.contents errors.old) (E.contents errors.new) }
 {
     let words = match arguments(line, alloc) {
         Ok(words) => words,
-        Err(fault) => return ExitCode::from(report_fault(program, None, &fault, errors)),
+        Err(fault) => return ExitCode::from(fault.report(errors)),
     };
-    let status = conclude(rt, alloc, program, words.as_slice(), input, output, errors);
+    let status = run(rt, alloc, words.as_slice(), input, output, errors);
     wipe_stack();
     ExitCode::from(status)
 }
@@ -71,6 +66,8 @@ pub fn start<R: Threads + Wait + Sync, L: CommandLine, I: Read, O: Write, E: Wri
 /// line is the message of `OutOfMemory`. Only the first fault is reported, in the order arguments,
 /// input, call, output, and nothing is written to `output` before the result is complete. The input
 /// is not read beyond the first byte that makes a password too long for every call.
+// Its frames have H0. It is never inlined, so that `start` may overwrite them.
+#[inline(never)]
 pub fn run<R: Threads + Wait + Sync, I: Read, O: Write, E: Write>(
     rt: &R,
     alloc: Global,
@@ -80,18 +77,21 @@ pub fn run<R: Threads + Wait + Sync, I: Read, O: Write, E: Write>(
     errors: &mut E,
 ) -> u8
     ensures bounded { result < 5 }
-    ensures answered { result < 2 → Answered Argon2 (texts_of words.now) (I.remaining input.old)
+    ensures answered { result < 2 → Answered (texts_of words.now) (I.remaining input.old)
         (O.contents output.old) (O.contents output.new) result }
-    ensures usage { (result ≡ 3) ↔ IsNoCommand Argon2 (texts_of words.now) }
-    ensures refused { result ≡ 2 → IsShortOrFails Argon2 (texts_of words.now) (I.remaining input.old)
+    ensures usage { (result ≡ 3) ↔ IsNoCommand (texts_of words.now) }
+    ensures refused { result ≡ 2 → IsShortOrFails (texts_of words.now) (I.remaining input.old)
         (O.contents output.old) (O.contents output.new) }
     ensures unwritten { result ≡ 3 → Keeps (O.contents output.old) (O.contents output.new) }
-    ensures written { WritesAnswer Argon2 (texts_of words.now) (I.remaining input.old)
+    ensures written { WritesAnswer (texts_of words.now) (I.remaining input.old)
         (O.contents output.old) (O.contents output.new) }
-    ensures stops { Reads Argon2 (texts_of words.now) (I.remaining input.old) (I.remaining input.new) }
-    ensures unread { NeedNoInput Argon2 (texts_of words.now)
+    ensures stops { Reads (texts_of words.now) (I.remaining input.old) (I.remaining input.new) }
+    ensures unread { NeedNoInput (texts_of words.now)
         → Keeps (I.remaining input.old) (I.remaining input.new) }
     ensures silent { result < 2 → Keeps (E.contents errors.old) (E.contents errors.new) }
 {
-    conclude(rt, alloc, Program::Argon2, words, input, output, errors)
+    match attempt(rt, alloc, words, input, output) {
+        Ok(status) => status,
+        Err(fault) => fault.report(errors),
+    }
 }

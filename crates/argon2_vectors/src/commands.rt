@@ -9,7 +9,6 @@
 //! | `run/without_memory WORDS` | the input `password`, and an output without memory |
 //! | `run/fails_once STEP REASON WORDS` | the input `password`, and an output whose first `write` or `flush` fails, for want of `memory` or for `another` reason |
 //! | `start ARGUMENT..` | the input `password`; the process's arguments, its name first, are checked before the run |
-//! | `tool INPUT WORDS`, `tool/broken`, .. `tool/start` | the same of the shell's tool |
 //! | `arguments ARGUMENT..` | none: the answer is the number of words, then each word after its count in a row |
 //!
 //! The answer of a run is its status, and what it wrote to the output and to the error stream. The
@@ -19,7 +18,7 @@
 use crate::line::{Words, bytes_of, repeated};
 use crate::streams::{Flaw, Input, Output, Started};
 use anyhow::{Result, bail};
-use argon2_commands::{Fault, OfProcess, Program, arguments, conclude, run, start};
+use argon2_commands::{Fault, OfProcess, arguments, run, start};
 use std::alloc::Global;
 use std::io::ErrorKind;
 use std::marker::Sync;
@@ -32,12 +31,9 @@ pub fn answer<R: Threads + Wait + Sync>(
     call: &str,
     words: &mut Words<'_>,
 ) -> Result<String> {
-    let (program, streams) = match call.strip_prefix("tool") {
-        Some(streams) => (Program::Tool, streams),
-        None => (Program::Argon2, call.strip_prefix("run").unwrap_or(call)),
-    };
-    if streams == "/start" || streams == "start" {
-        return started(rt, alloc, program, words);
+    let streams = call.strip_prefix("run").unwrap_or(call);
+    if streams == "start" {
+        return started(rt, alloc, words);
     }
     let is_broken = streams == "/broken";
     let bytes = if is_broken || streams.is_empty() {
@@ -53,18 +49,7 @@ pub fn answer<R: Threads + Wait + Sync>(
     let (mut output, mut errors) = (Output::new(alloc, flaw), Output::new(alloc, of_errors));
     let words = words_of(alloc, words.others())?;
     let words = words.as_slice();
-    let status = match program {
-        Program::Argon2 => run(rt, alloc, words, &mut input, &mut output, &mut errors),
-        Program::Tool => conclude(
-            rt,
-            alloc,
-            program,
-            words,
-            &mut input,
-            &mut output,
-            &mut errors,
-        ),
-    };
+    let status = run(rt, alloc, words, &mut input, &mut output, &mut errors);
     told(alloc, Some(status), output, errors)
 }
 
@@ -136,7 +121,6 @@ fn add(alloc: Global, arguments: &mut Vec<Vec<u8>>, count: u32, argument: &str) 
 fn started<R: Threads + Wait + Sync>(
     rt: &R,
     alloc: Global,
-    program: Program,
     words: &mut Words<'_>,
 ) -> Result<String> {
     let given = given(alloc, words.others())?;
@@ -145,15 +129,7 @@ fn started<R: Threads + Wait + Sync>(
     let mut output = Output::new(alloc, Flaw::None);
     let mut errors = Output::new(alloc, Flaw::None);
     let line = OfProcess(&started);
-    start(
-        rt,
-        alloc,
-        program,
-        &line,
-        &mut input,
-        &mut output,
-        &mut errors,
-    );
+    start(rt, alloc, &line, &mut input, &mut output, &mut errors);
     told(alloc, None, output, errors)
 }
 

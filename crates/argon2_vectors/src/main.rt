@@ -23,7 +23,7 @@
 //! | `ThreadMode::from_threads N`, `Variant::from_u32 N`, `Version::from_str WORD`, .. | the value and its names |
 //! | `Error NAME` | the error that `serde` reads from this name: its case, what `serde` writes, its message |
 //! | `common` | the constants |
-//! | `run INPUT WORDS`, `run/broken`, `run/full`, `run/stuck`, `run/without_memory`, `arguments`, `start`, `tool INPUT WORDS`, .. | see `commands.rt` |
+//! | `run INPUT WORDS`, `run/broken`, `run/full`, `run/stuck`, `run/without_memory`, `arguments`, `start`, .. | see `commands.rt` |
 //!
 //! INPUTS are `VARIANT VERSION T M P LEN MODE PASSWORD SALT SECRET DATA`. MODE is `seq`, `par`,
 //! `max` and a number, or `all`: then all thread modes, and the call that ignores the mode, have to

@@ -22,19 +22,16 @@ pub fn answer<R: Threads + Wait + Sync>(rt: &R, alloc: Global, line: &str) -> Re
         "hash_raw" | "hash_encoded" | "verify_raw" => in_modes(rt, alloc, call, &mut words),
         "verify_encoded" => texts::verdict_and_text(rt, alloc, words.text(alloc)?.as_str()),
         "verify_encoded_ext" => texts::verdict(rt, alloc, &mut words),
-        _ if is_of_a_program(call) => commands::answer(rt, alloc, call, &mut words),
+        _ if is_of_the_program(call) => commands::answer(rt, alloc, call, &mut words),
         _ => answer_alone(alloc, call, &mut words),
     }?;
     words.end()?;
     Ok(answered)
 }
 
-/// Whether a call is a run or a start of a program.
-fn is_of_a_program(call: &str) -> bool {
-    match call.split_once('/') {
-        Some((whose, _)) => whose == "run" || whose == "tool",
-        None => call == "run" || call == "tool" || call == "start",
-    }
+/// Whether a call is a run or a start of the program.
+fn is_of_the_program(call: &str) -> bool {
+    call == "run" || call == "start" || call.starts_with("run/")
 }
 
 /// The answer of a call that may work in several threads.

@@ -11,5 +11,5 @@ pub returns-clause-written : goal.returns-clause-written
 returns-clause-written g c = (
   texts_of c.as_slice.result.now,
   subst (λ words. AreWords (g.L.CommandLine.arguments c.args.line.now) (texts_of words)) (sym c.as_slice.ensures.value) c.in-Ok.ensures.all,
-  c.conclude-status.ensures.written,
+  c.run-status.ensures.written,
 )

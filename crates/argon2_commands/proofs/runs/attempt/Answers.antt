@@ -4,8 +4,8 @@ use Rattle.std.proofs.lemmas.Result.{IfOk-from_err, err_from_is_err_and}
 use Rattle.argon2_commands.specs.Fault.{IsBeforeOutput}
 use Rattle.argon2_commands.specs.Run.{AppendsFront}
 use Rattle.argon2_commands.specs.Words.{texts_of}
-use Rattle.argon2_commands.specs.declared.fault.Fault.TheVariants.{Usage, Refused, TooCostly}
-use Rattle.argon2_commands.proofs.Statuses.{answer_is_no_usage, output_is_not, same_error, status_is_no_usage, fails_costly, is_costly, no_answer, is_no_output, is_refused, passed_on, told, untouched}
+use Rattle.argon2_commands.specs.declared.fault.Fault.TheVariants.{Usage, Refused}
+use Rattle.argon2_commands.proofs.Statuses.{answer_is_no_usage, output_is_not, same_error, status_is_no_usage, is_no_output, is_refused, passed_on, untouched}
 use Rattle.argon2_commands.proofs.runs.attempt.Goals as goal
 
 -- ---- words of no command
@@ -25,14 +25,6 @@ returns-in_err-command-clause-refused g c =
 pub returns-in_err-command-clause-short : goal.returns-in_err-command-clause-short
 returns-in_err-command-clause-short g c =
     passed_on c.from_residual.result c.in_err-command.field-0.0 _ c.from_residual.ensures (λ short. absurd (cc (c.in_err-command.ensures.1, short)))
-
-pub returns-in_err-command-clause-costly : goal.returns-in_err-command-clause-costly
-returns-in_err-command-clause-costly g c =
-    passed_on c.from_residual.result c.in_err-command.field-0.0 _ c.from_residual.ensures (λ costly. absurd (cc (c.in_err-command.ensures.1, costly)))
-
-pub returns-in_err-command-clause-judged : goal.returns-in_err-command-clause-judged
-returns-in_err-command-clause-judged g c costly =
-    absurd (c.in_err-command.ensures.0 costly.command costly.is_command)
 
 pub returns-in_err-command-clause-unwritten : goal.returns-in_err-command-clause-unwritten
 returns-in_err-command-clause-unwritten g c =
@@ -63,25 +55,13 @@ returns-in_err-answer-clause-usage g c =
 pub returns-in_err-answer-clause-refused : goal.returns-in_err-answer-clause-refused
 returns-in_err-answer-clause-refused g c =
     passed_on c.from_residual-in_err-answer.result c.in_err-answer.field-0.0 _ c.from_residual-in_err-answer.ensures
-    (is_refused c.args.program (texts_of c.args.words.now) (g.I.Read.remaining c.args.input.now) c.in_ok-command.command c.in_err-answer.field-0.0 c.in_ok-command.ensures
+    (is_refused (texts_of c.args.words.now) (g.I.Read.remaining c.args.input.now) c.in_ok-command.command c.in_err-answer.field-0.0 c.in_ok-command.ensures
     c.in_err-answer.ensures.fault)
 
 pub returns-in_err-answer-clause-short : goal.returns-in_err-answer-clause-short
 returns-in_err-answer-clause-short g c =
     passed_on c.from_residual-in_err-answer.result c.in_err-answer.field-0.0 _ c.from_residual-in_err-answer.ensures
     (is_no_output c.in_err-answer.field-0.0 _ _ c.in_err-answer.ensures.fault)
-
-pub returns-in_err-answer-clause-costly : goal.returns-in_err-answer-clause-costly
-returns-in_err-answer-clause-costly g c =
-    passed_on c.from_residual-in_err-answer.result c.in_err-answer.field-0.0 _ c.from_residual-in_err-answer.ensures
-    (is_costly c.args.program (texts_of c.args.words.now) (g.I.Read.remaining c.args.input.now) c.in_ok-command.command c.in_err-answer.field-0.0 c.in_ok-command.ensures
-    c.in_err-answer.ensures.fault)
-
-pub returns-in_err-answer-clause-judged : goal.returns-in_err-answer-clause-judged
-returns-in_err-answer-clause-judged g c costly =
-    told c.from_residual-in_err-answer.result c.in_err-answer.field-0.0 _ c.from_residual-in_err-answer.ensures
-    (fails_costly c.args.program (texts_of c.args.words.now) (g.I.Read.remaining c.args.input.now) c.in_ok-command.command c.in_err-answer.field-0.0 c.in_ok-command.ensures
-    c.in_err-answer.ensures.fault costly)
 
 pub returns-in_err-answer-clause-unwritten : goal.returns-in_err-answer-clause-unwritten
 returns-in_err-answer-clause-unwritten g c =
@@ -116,11 +96,6 @@ returns-in-Ok-clause-answered g c = record {
 pub returns-in-Ok-clause-usage : goal.returns-in-Ok-clause-usage
 returns-in-Ok-clause-usage g c =
     (λ usage. status_is_no_usage c.status.result usage, λ none. absurd (none c.in_ok-command.command c.in_ok-command.ensures))
-
-pub returns-in-Ok-clause-judged : goal.returns-in-Ok-clause-judged
-returns-in-Ok-clause-judged g c =
-    no_answer c.args.program (texts_of c.args.words.now) (g.I.Read.remaining c.args.input.now) c.in_ok-command.command c.in_ok-answer.answer c.in_ok-command.ensures
-    c.in_ok-answer.ensures.answer
 
 pub returns-in-Ok-clause-written : goal.returns-in-Ok-clause-written
 returns-in-Ok-clause-written g c = inr (record {
@@ -161,15 +136,6 @@ returns-clause-short g c _ = record {
   is_command = c.in_ok-command.ensures;
   is_answer = c.in_ok-answer.ensures.answer;
 }
-
-pub returns-clause-costly : goal.returns-clause-costly
-returns-clause-costly g c =
-    output_is_not c.of_stream.result (λ fault. fault ≡ TooCostly) c.of_stream.ensures.short c.of_stream.ensures.other (λ e. cc (e)) (λ e. cc (e))
-
-pub returns-clause-judged : goal.returns-clause-judged
-returns-clause-judged g c =
-    no_answer c.args.program (texts_of c.args.words.now) (g.I.Read.remaining c.args.input.now) c.in_ok-command.command c.in_ok-answer.answer c.in_ok-command.ensures
-    c.in_ok-answer.ensures.answer
 
 pub returns-clause-unwritten : goal.returns-clause-unwritten
 returns-clause-unwritten g c =

@@ -1,8 +1,8 @@
 use Rattle.std.proofs.Common.{Err, Ok, inl, inr, refl, string_bytes, subst}
 use Rattle.std.proofs.lemmas.Result.{IfOk-from_err}
 use Rattle.argon2_standard.specs.declared.error.Error.TheVariants.{OutOfMemory}
-use Rattle.argon2_commands.specs.Answer.{CheckAnswers, HashAnswers, IsHashError, MayBeError, NeedsNoInput, VerifyAnswers}
-use Rattle.argon2_commands.proofs.Statuses.{check_fault, passed_on, read_fault, untouched}
+use Rattle.argon2_commands.specs.Answer.{HashAnswers, IsHashError, MayBeError, NeedsNoInput, VerifyAnswers}
+use Rattle.argon2_commands.proofs.Statuses.{passed_on, read_fault, untouched}
 use Rattle.argon2_commands.proofs.Passwords.{hash_of_input, error_of_input, verify_of_input}
 use Rattle.argon2_commands.proofs.answer.Answer.to.Goals as goal
 
@@ -14,14 +14,6 @@ returns-in_err-verdict-in-Verify-clause-fault g c = rw c.in-Verify.is
     (passed_on _ _ _ c.from_residual-in_err-verdict-in-Verify.ensures (inr (verify_of_input _ _ _ _ c.in_ok-password-in-Verify.ensures.bytes
     (subst (λ read. VerifyAnswers c.in-Verify.encoded.now read (Err c.in_err-verdict-in-Verify.field-0.0)) c.as_slice-in-Verify.ensures.value
     (record { unspelled = c.in_err-verdict-in-Verify.ensures.unspelled; spelled = c.in_err-verdict-in-Verify.ensures.spelled })))))
-
-pub returns-in_err-verdict-in-Check-clause-fault :
-    goal.returns-in_err-verdict-in-Check-clause-fault
-returns-in_err-verdict-in-Check-clause-fault g c = rw c.in-Check.is
-    (passed_on _ _ _ c.from_residual-in_err-verdict-in-Check.ensures
-    (check_fault c.in-Check.encoded (g.I.Read.remaining c.args.input.now) _ c.in_err-verdict-in-Check.field-0.0 c.in_ok-password-in-Check.ensures.bytes
-    (subst (λ read. CheckAnswers c.in-Check.encoded.now read (Err c.in_err-verdict-in-Check.field-0.0)) c.as_slice-in-Check.ensures.value
-    c.in_err-verdict-in-Check.ensures)))
 
 pub returns-in_err-needs_rehash-in-Rehash-clause-fault :
     goal.returns-in_err-needs_rehash-in-Rehash-clause-fault
