@@ -42,6 +42,8 @@ fn difference(one: &[u8], other: &[u8]) -> u8
 
 /// Whether two hashes of one length are equal. It goes on to the last byte, whereas `==` may stop
 /// at the first difference.
+// Not inlined, so that the machine code has one comparison, about which one statement is made.
+#[inline(never)]
 pub fn are_equal(one: &[u8], other: &[u8]) -> bool
     requires { length one.now ≡ length other.now }
     ensures { IsTrue result ↔ (one.now ≡ other.now) }

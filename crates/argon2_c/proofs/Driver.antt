@@ -8,14 +8,15 @@ use Rattle.argon2_c.specs.Jobs.{job_of, setting_of_job}
 use Rattle.argon2_c.specs.Steps.{Finishes, Verifies}
 use Rattle.argon2_c.specs.Runs.{IsMade, IsRun, slice_at}
 use Rattle.argon2_c.specs.Team.{IsApart, IsStep, Team}
+use Rattle.argon2_c.specs.Threads.{HasReturned, IsReached, Threads}
 use Rattle.argon2_c.specs.Driver.{EveryTeamGivesTheTag, EveryTeamGivesTheVerdict, NoThreadWorksAfterTheEnd, EveryJobCanBeFilled, EveryCallReturns, IsFilled, KeepsSlices, FillsSegment, segment_in_step, work_of}
 use Rattle.argon2_c.specs.declared.jobs.CallerJob.{CallerJob}
 use Rattle.argon2_c.specs.declared.errors.CallError.TheVariants.{Mismatch}
 use Rattle.argon2_c.proofs.JobNumbers.{accepted_hash, recovered, setting_that_fits}
 use Rattle.argon2_c.proofs.Runs.{made_match, made_mismatch, made_tag, same_at}
 use Rattle.argon2_c.proofs.Team.{every_step_is_whole, nobody_works_after_the_end}
-use Rattle.argon2_c.proofs.Finishing.{a_team_can_finish}
-use Rattle.argon2_c.proofs.Fillings.{job_filling, memory}
+use Rattle.argon2_c.proofs.Finishing.{a_call_can_finish}
+use Rattle.argon2_c.proofs.Fillings.{AreSlices, job_can_fill}
 use Rattle.argon2_c.proofs.Threads.{all_threads_end, some_thread_can_go_on, threads_are_a_team}
 use Rattle.argon2_c.proofs.Endings.{every_run_ends}
 
@@ -110,26 +111,31 @@ no_thread_works_after_the_end job tasks some =
     nobody_works_after_the_end (work_of job tasks) (apart job tasks some)
 
 pub every_job_can_be_filled : EveryJobCanBeFilled
-every_job_can_be_filled pwd salt config len job tasks from some =
+every_job_can_be_filled pwd salt config len job tasks members is_long from fewer =
     let s = setting_of pwd salt config len in
     let Fills : CallerJob → Type 0 = λ j. (start : List (List (List ℕ))) → length start ≡ 4
     → ((k : ℕ) → k < 4 → length (slice_at start k) ≡ j.lanes * j.segment_length)
-    → (t : Team (work_of j tasks)) × IsFilled j tasks t × (t.is_over ≡ true) × (t.before 0 ≡ start) in
+    → (t : Threads (work_of j tasks) members is_long) × IsReached (work_of j tasks) members is_long t
+    × HasReturned (work_of j tasks) members is_long t × IsFilled j tasks t.team × (t.team.is_over ≡ true) × (t.team.before 0 ≡ start) in
     subst Fills (sym from.made) (λ start four long.
     let good = setting_that_fits pwd salt config len from.accepted from.few_passes from.little_memory in
     let is = recovered s len good (accepted_hash config (length pwd) (length salt) len from.accepted) in
-    let end = a_team_can_finish (work_of (job_of s len) tasks) (apart (job_of s len) tasks some) (memory s start)
-    (job_filling s len tasks is start (record { four = four; long = long })) in
-    let same : end.0.before 0 ≡ start = end.4 in (
+    let some : 0 < tasks = omega (arith, fewer) in
+    let work = work_of (job_of s len) tasks in
+    let whole : AreSlices s start = record { four = four; long = long } in
+    let end = a_call_can_finish work members is_long (apart (job_of s len) tasks some) (AreSlices s) (job_can_fill s len tasks is) fewer (omega arith) start whole in
+    let same : end.0.team.before 0 ≡ start = end.5 in (
       end.0,
+      end.1,
+      end.2,
       record {
         some = some;
-        reached = end.1;
+        reached = threads_are_a_team work members is_long (apart (job_of s len) tasks some) end.0 end.1;
         four = ap length same ∙ four;
         long = λ k few. ap (λ (m : List (List (List ℕ))). length (slice_at m k)) same ∙ long k few;
-        all = end.2;
+        all = end.3;
       },
-      end.3,
+      end.4,
       same,
     ))
 

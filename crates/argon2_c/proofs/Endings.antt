@@ -111,7 +111,7 @@ module _ (w : T.Work) (members : ℕ) (is_long : Bool) where
     wakes_less : (k : ℕ) → H.Can w members is_long s (H.Wakes k) → left (next_of (H.Wakes k)) < left s
     wakes_less k can =
         let waking : B.CallerWakes w members is_long s k = subst (B.Caller w members is_long s) can.0 inv.caller in
-        let is : IsMember k = (waking.first, can.1) in
+        let is : IsMember k = (waking.first, omega (arith, can.1)) in
         let t = next_of (H.Wakes k) in
         let ne : k ≢ 0 = λ e. omega (arith, e, is.0) in
         let woken = B.woken_k w members is_long apart s inv k can in

@@ -1,4 +1,4 @@
--- A job's memory while each step fills one lane after another with the blocks of Argon2. With it a team can finish.
+-- Each step of a job can fill each lane of four whole slices with the blocks of Argon2.
 use Rattle.std.proofs.Common.{◌≡◌, ◌≢◌, ℕ, zero, suc, ◌+◌, ◌*◌, ◌/◌, ◌%◌, ◌<◌, ◌≤◌, List, [], ◌++◌, length, take, drop, set, get_or, Some}
 use Rattle.std.proofs.Common.{refl, sym, ◌∙◌, subst, ap, inl, inr, arith}
 use Rattle.std.specs.List.{remove}
@@ -16,7 +16,7 @@ use Rattle.argon2_fill.proofs.CallerBlocks.{others-stay}
 use Rattle.argon2_c.specs.Jobs.{job_of, setting_of_job}
 use Rattle.argon2_c.specs.Steps.{AreBlocks, IsPlace}
 use Rattle.argon2_c.specs.Runs.{slice_at}
-use Rattle.argon2_c.specs.Team.{IsFilling}
+use Rattle.argon2_c.specs.Threads.{CanFill}
 use Rattle.argon2_c.specs.Driver.{FillsSegment, KeepsSlices, segment_in_step, slice_of_step, work_of}
 
 -- ---- a slice with other blocks in one lane
@@ -136,39 +136,6 @@ module _ (s : Setting) where
     put_others l ne = ap (λ (b : List (List ℕ)). blocks_of_lane s b l) own_slice
         ∙ others-put_lane s (slice_at m own) lane (target n lane) (are.long own (of_four n)) fits (length-target n lane) l ne
 
-  -- a step has filled the lanes below l
-  abbrev written : ℕ → ℕ → Memory → Memory
-  written n zero m = m
-  written n (suc l) m = put n l (written n l m)
-
-  written_are : (n l : ℕ) (m : Memory) → l ≤ s.lanes → AreSlices m → AreSlices (written n l m)
-  written_are n zero m fits are = are
-  written_are n (suc l) m fits are = put_are n l (written n l m) (written_are n l m (omega (arith, fits)) are) fits
-
-  written_own : (n l lane : ℕ) (m : Memory) → l ≤ s.lanes → lane < l → AreSlices m
-      → blocks_of_lane s (slice_at (written n l m) (slice_of_step n)) lane ≡ target n lane
-  written_own n zero lane m fits below are = absurd (omega (arith, below))
-  written_own n (suc l) lane m fits below are =
-      let so_far = written_are n l m (omega (arith, fits)) are in
-      elim (eqb_tells lane l) [
-        | inl x ↦ subst (λ (i : ℕ). blocks_of_lane s (slice_at (put n l (written n l m)) (slice_of_step n)) i ≡ target n i) (sym x.1)
-            (put_own n l (written n l m) so_far fits)
-        | inr x ↦ put_others n l (written n l m) so_far fits lane x.1
-            ∙ written_own n l lane m (omega (arith, fits)) (omega (arith, below, x.1)) are
-      ]
-
-  -- the memory before each step
-  abbrev before : Memory → ℕ → Memory
-  before start zero = start
-  before start (suc n) = written n s.lanes (before start n)
-
-  before_are : (start : Memory) (n : ℕ) → AreSlices start → AreSlices (before start n)
-  before_are start zero are = are
-  before_are start (suc n) are = written_are n s.lanes (before start n) (omega arith) (before_are start n are)
-
-  abbrev pub memory : Memory → ℕ → ℕ → Memory
-  memory start n l = written n l (before start n)
-
   -- the slices beside the job's own are whole
   beside : (m : Memory) → AreSlices m → (k i : ℕ) → k < 4 → i < 3 → length (get_or (remove m k) i []) ≡ s.lanes * s.segment_length
   beside m are k i few third = elim (cases_lt i k) [
@@ -176,22 +143,20 @@ module _ (s : Setting) where
     | inr high ↦ ap length (get_or-remove_above m k [] i high (omega (arith, few, are.four))) ∙ are.long (i + 1) (omega (arith, third))
   ]
 
-  module _ (len tasks : ℕ) (is : setting_of_job (job_of s len) ≡ Some s) (start : Memory) (are : AreSlices start) where
-    filled : (n lane : ℕ) → n < suc (4 * s.passes) → lane < s.lanes → (old : List (List ℕ)) → length old ≡ s.segment_length
-        → FillsSegment (job_of s len) n lane (memory start n s.lanes) old (target n lane)
-    filled zero lane few fits old long = rw is (record {
+  module _ (len tasks : ℕ) (is : setting_of_job (job_of s len) ≡ Some s) where
+    filled : (n lane : ℕ) (m : Memory) → n < suc (4 * s.passes) → lane < s.lanes → AreSlices m → (old : List (List ℕ)) → length old ≡ s.segment_length
+        → FillsSegment (job_of s len) n lane m old (target n lane)
+    filled zero lane m few fits are old long = rw is (record {
       no_place = λ no. absurd (no fits);
       wrong_blocks = λ place no. absurd (no long);
       begun = λ place same. (refl, (length-target 0 lane, refl));
     })
-    filled (suc n) lane few fits old long =
-        let m = memory start (suc n) s.lanes in
-        let whole = before_are start (suc (suc n)) are in
+    filled (suc n) lane m few fits are old long =
         let place : IsPlace s (n / 4) (n % 4) lane = record { pass_fits = omega (arith, few); slice_fits = omega arith; lane_fits = fits } in
         let blocks : AreBlocks s (slice_at (remove m (n % 4)) 0) (slice_at (remove m (n % 4)) 1) (slice_at (remove m (n % 4)) 2) old = record {
-          first = beside m whole (n % 4) 0 (omega arith) (omega arith);
-          second = beside m whole (n % 4) 1 (omega arith) (omega arith);
-          third = beside m whole (n % 4) 2 (omega arith) (omega arith);
+          first = beside m are (n % 4) 0 (omega arith) (omega arith);
+          second = beside m are (n % 4) 1 (omega arith) (omega arith);
+          third = beside m are (n % 4) 2 (omega arith) (omega arith);
           own = long;
         } in
         rw is (record {
@@ -200,15 +165,18 @@ module _ (s : Setting) where
           filled = λ there same. (refl, λ hold ready. refl);
         })
 
-    pub job_filling : IsFilling (work_of (job_of s len) tasks) (memory start)
-    job_filling = record {
-      next = λ n few. refl;
-      keeps = λ n l few fits. put_keeps n l (memory start n l) (written_are n l (before start n) (omega (arith, fits)) (before_are start n are)) fits;
-      others = λ n l k few fits ne. put_others n l (memory start n l) (written_are n l (before start n) (omega (arith, fits)) (before_are start n are)) fits k ne;
-      fills = λ n l few fits.
-          let whole = before_are start n are in
-          subst (λ (new : List (List ℕ)). FillsSegment (job_of s len) n l (memory start n s.lanes) (segment_in_step (job_of s len) n l (before start n)) new)
-          (sym (written_own n s.lanes l (before start n) (omega arith) fits whole))
-          (filled n l few fits (segment_in_step (job_of s len) n l (before start n))
-          (length-blocks_of_lane s (slice_at (before start n) (slice_of_step n)) l (whole.long (slice_of_step n) (of_four n)) fits));
-    }
+    pub job_can_fill : CanFill (work_of (job_of s len) tasks) AreSlices
+    job_can_fill n lane m few fits are =
+        let keeps = put_keeps n lane m are fits in (
+          put n lane m,
+          put_are n lane m are fits,
+          record {
+            keeps = keeps;
+            back = record { others = sym keeps.others; four = sym keeps.four; long = λ k. sym (keeps.long k) };
+            others = put_others n lane m are fits;
+            fills = subst (λ (new : List (List ℕ)). FillsSegment (job_of s len) n lane m (segment_in_step (job_of s len) n lane m) new)
+                (sym (put_own n lane m are fits))
+                (filled n lane m few fits are (segment_in_step (job_of s len) n lane m)
+                (length-blocks_of_lane s (slice_at m (slice_of_step n)) lane (are.long (slice_of_step n) (of_four n)) fits));
+          },
+        )

@@ -1,4 +1,4 @@
--- A run of a job's steps gives the tag, as one call for all steps does. The lanes' turns in any order make a run.
+-- A run of a job's steps gives the tag, as one call for all steps does.
 use Rattle.std.proofs.Common.{◌≡◌, ℕ, suc, ◌-◌, ◌*◌, ◌/◌, ◌%◌, ◌<◌, List, [], ◌∷◌, length, get_or, Some, Result, Ok, Err, refl, arith, ap, sym, inl}
 use Rattle.std.proofs.Common.{inr, ◌∙◌, ◌≢◌, ◌+◌}
 use Rattle.std.specs.List.{remove}
@@ -14,17 +14,16 @@ use Rattle.argon2_memory.specs.Views.Segments.{IsReady}
 use Rattle.argon2_memory.proofs.Slices.{length-blocks_of_lane}
 use Rattle.argon2_fill.specs.Theorems.Lanes.{IsRunOfLanes, numbered}
 use Rattle.argon2_fill.proofs.CallerBlocks.{fills_among}
-use Rattle.argon2_fill.proofs.Passes.{run_agrees, IsApart, all_unchanged, each_done}
+use Rattle.argon2_fill.proofs.Passes.{run_agrees}
 use Rattle.argon2_c.specs.Answers.{Tells}
 use Rattle.argon2_c.specs.Jobs.{job_of, setting_of_job}
-use Rattle.argon2_c.specs.Steps.{AreBlocks, BeginsAt, FillsAt, Finishes, FinishesAt, IsPlace, IsTagOf, Verifies, VerifiesAt, Begins}
+use Rattle.argon2_c.specs.Steps.{AreBlocks, BeginsAt, FillsAt, Finishes, FinishesAt, IsPlace, IsTagOf, Verifies, VerifiesAt}
 use Rattle.argon2_c.specs.CallerBlocks.{HashesJob, JudgesJob, BlocksAndTag}
-use Rattle.argon2_c.specs.Runs.{IsMade, IsRun, slice_at, FillsLane, IsBegin, IsFill, IsRunOfTurns, segment_of}
+use Rattle.argon2_c.specs.Runs.{IsMade, IsRun, slice_at}
 use Rattle.argon2_c.specs.declared.errors.CallError.{CallError}
 use Rattle.argon2_c.specs.declared.errors.CallError.TheVariants.{Mismatch, WrongLength, WrongBlocks}
 use Rattle.argon2_c.proofs.JobNumbers.{accepted_hash, recovered, setting_that_fits}
 use Rattle.std.proofs.lemmas.Bool.{cases_lt}
-use Rattle.argon2_c.specs.declared.jobs.CallerJob.{CallerJob}
 
 -- ---- from the answers of the steps to the tag
 
@@ -165,8 +164,6 @@ module _ (pwd salt : List ℕ) (config : Config) (len : ℕ) where
       made_mismatch hash old new h same =
           let v = verified its len _ hash old new (Err Mismatch) (λ e. absurd (cc)) (λ e. absurd (cc)) (rw is at h) in v.0 (same ∙ sym (tag_by new v.1))
 
--- ---- from turns to a run
-
 -- if two lists are the same once the element at i is removed, their other elements are the same
 pub same_at : (xs ys : List (List (List ℕ))) (i k : ℕ) → i < length xs → i < length ys → k ≢ i → remove ys i ≡ remove xs i → get_or ys k [] ≡ get_or xs k []
 same_at xs ys i k in_xs in_ys ne same = elim (cases_lt k i) [
@@ -176,59 +173,3 @@ same_at xs ys i k in_xs in_ys ne same = elim (cases_lt k i) [
       let at_last = λ (zs : List (List (List ℕ))) (inside : i < length zs). get_or-remove_above zs i [] (k - 1) (omega (arith, w, ne)) inside in
       rw next at (sym (at_last ys in_ys) ∙ ap (λ (zs : List (List (List ℕ))). get_or zs (k - 1) []) same ∙ at_last xs in_xs)
 ]
-
-module _ (job : CallerJob) (slice : ℕ) where
-  abbrev SameBeside : List (List (List ℕ)) → List (List (List ℕ)) → Type 0
-  SameBeside before after = remove after slice ≡ remove before slice
-
-  abbrev lane_of : ℕ → List (List (List ℕ)) → List (List ℕ)
-  lane_of lane slices = segment_of job (slice_at slices slice) lane
-
-module _ (job : CallerJob) where
-  abbrev BeginsLane : ℕ → List (List (List ℕ)) → List (List ℕ) → List (List ℕ) → Type 0
-  BeginsLane lane slices old new = Begins (setting_of_job job) lane old new (Ok tt)
-
-  begins_apart : IsApart (IsBegin job) (SameBeside job 0) (lane_of job 0) BeginsLane
-  begins_apart = record {
-    none = λ m. refl;
-    further = λ one two three first second. second ∙ first;
-    same = λ lane before after turn. turn.only.beside;
-    kept = λ lane l before after ne turn. turn.only.lanes l ne;
-    does = λ lane before after turn. turn.begun;
-    seen = λ lane before middle old new same begun. begun;
-  }
-
-  module _ (n : ℕ) where
-    abbrev FillsBeside : ℕ → List (List (List ℕ)) → List (List ℕ) → List (List ℕ) → Type 0
-    FillsBeside lane slices old new = FillsLane job n lane slices old new
-
-    fills_apart : IsApart (IsFill job n) (SameBeside job (n % 4)) (lane_of job (n % 4)) FillsBeside
-    fills_apart = record {
-      none = λ m. refl;
-      further = λ one two three first second. second ∙ first;
-      same = λ lane before after turn. turn.only.beside;
-      kept = λ lane l before after ne turn. turn.only.lanes l ne;
-      does = λ lane before after turn. turn.filled;
-      seen = λ lane before middle old new same fills. rw (sym same) fills;
-    }
-
-  module _ (start : List (List (List ℕ))) (slices : ℕ → List (List (List ℕ))) (run : IsRunOfTurns job start slices) where
-    -- while slice number n is filled, each slice k other than slice n % 4 stays unchanged
-    beside_same : (n k : ℕ) → n < 4 * job.passes → k ≢ n % 4 → slice_at (slices (suc n)) k ≡ slice_at (slices n) k
-    beside_same n k few ne = same_at (slices n) (slices (suc n)) (n % 4) k (omega (arith, run.four n)) (omega (arith, run.four (suc n))) ne
-        (all_unchanged (IsFill job n) (SameBeside job (n % 4)) (lane_of job (n % 4)) (FillsBeside n) (fills_apart n) job.lanes
-        (slices n) (slices (suc n)) (run.filled n few))
-
-    pub run_of_turns : IsRun job slices
-    run_of_turns = record {
-      four = run.four;
-      long = run.long;
-      begun = λ lane fits. (
-        segment_of job (slice_at start 0) lane,
-        each_done (IsBegin job) (SameBeside job 0) (lane_of job 0) BeginsLane begins_apart job.lanes start (slices 0) run.begun lane fits,
-      );
-      others = beside_same;
-      filled = λ n lane few fits.
-          each_done (IsFill job n) (SameBeside job (n % 4)) (lane_of job (n % 4)) (FillsBeside n) (fills_apart n) job.lanes
-          (slices n) (slices (suc n)) (run.filled n few) lane fits;
-    }

@@ -160,6 +160,15 @@ module _ (w : T.Work) (members : ℕ) (is_long : Bool) where
     pub chain : s.team.is_over ≡ false → (i : ℕ) → i < w.tasks → IsClaimed s i → members < next i → IsClaimed s (next i) ⊎ GoesOn s i
     pub count : s.team.is_over ≡ false → Count s
 
+  -- what can happen next. A quiet move changes nothing of the team but `woken` and `entered`
+  pub data Next (s : Threads) : Type 0 where
+    Quiet : (m : H.Move w members is_long) (woken entered : ℕ → ℕ) → H.Can w members is_long s m
+        → (H.after w members is_long s m).team ≡ record s.team { woken = woken; entered = entered } → (H.IsWrite w members is_long m → ⊥) → Next s
+    Claim : (j part n : ℕ) → H.Can w members is_long s (H.Claims j part n) → Next s
+    Work : (j part n : ℕ) → j ≤ members → s.place j ≡ H.Working part n → Next s
+    Through : s.place 0 ≡ H.Counting w.tasks → Next s
+    AllTaken : s.place 0 ≡ H.Left → Next s
+
   -- ---- what a move of one thread leaves unchanged in the others
 
   pub record Changes (s t : Threads) (j : ℕ) : Type 0 where
@@ -191,25 +200,14 @@ module _ (w : T.Work) (members : ℕ) (is_long : Bool) where
     member_moved k is ne H.Waiting m = rw (c.entered k ne) (c.owes k is ne (s.team.entered k) m)
     member_moved k is ne H.Woken m = rw (c.entered k ne) (c.owes k is ne (suc (s.team.entered k)) m)
     member_moved k is ne H.Ended m = c.over ∙ m
-    member_moved k is ne (H.Waking n) m = m
-    member_moved k is ne (H.Counting n) m = m
-    member_moved k is ne H.Left m = m
-    member_moved k is ne (H.Ending n) m = m
+    member_moved k is ne other m = m
 
     claimed_moved : (i : ℕ) → IsClaimed s i → IsClaimed t i
     claimed_moved i h = omega (arith, c.step, c.grows i, h)
 
     own_moved : (k : ℕ) (at : H.Place) → Own s k at → Own t k at
     own_moved k (H.Taking part n) o = elim o [ inl e ↦ inl e | inr h ↦ inr (claimed_moved k h) ]
-    own_moved k (H.Working part n) o = claimed_moved k o
-    own_moved k (H.Telling n) o = claimed_moved k o
-    own_moved k H.Waiting o = claimed_moved k o
-    own_moved k H.Woken o = claimed_moved k o
-    own_moved k H.Ended o = claimed_moved k o
-    own_moved k (H.Waking n) o = claimed_moved k o
-    own_moved k (H.Counting n) o = claimed_moved k o
-    own_moved k H.Left o = claimed_moved k o
-    own_moved k (H.Ending n) o = claimed_moved k o
+    own_moved k other o = claimed_moved k o
 
     -- a move of a thread j other than the caller's keeps what `Caller` says of the caller's thread (`caller_moved`)
     module _ (other : 0 ≢ j) (woken : (k : ℕ) → t.team.woken k ≡ s.team.woken k)
@@ -247,9 +245,7 @@ module _ (w : T.Work) (members : ℕ) (is_long : Bool) where
       caller_moved H.Left m = (c.over ∙ m.0, c.step ∙ m.1)
       caller_moved (H.Ending k) m = (c.over ∙ m.0, m.1, m.2)
       caller_moved H.Ended m = (c.over ∙ m.0, ended m.1)
-      caller_moved (H.Telling n) m = m
-      caller_moved H.Waiting m = m
-      caller_moved H.Woken m = m
+      caller_moved other m = m
 
     -- a move that claims and finishes no part keeps the invariants `busy` and `chain`
     module _ (inv : Holds s) (state : (i : ℕ) → t.team.state i ≡ s.team.state i) (owner : (i : ℕ) → t.owner i ≡ s.owner i)
@@ -389,7 +385,7 @@ module _ (w : T.Work) (members : ℕ) (is_long : Bool) where
         waking = subst (Caller s) can.0 inv.caller
 
         pub woken_k : s.team.woken k ≡ s.team.step
-        woken_k = waking.woken k (waking.first, can.1) ∙ elim (below k k (suc s.team.step) s.team.step) [
+        woken_k = waking.woken k (waking.first, omega (arith, can.1)) ∙ elim (below k k (suc s.team.step) s.team.step) [
           | inl x ↦ absurd (omega (arith, x.0))
           | inr x ↦ x.1
         ]
@@ -733,9 +729,7 @@ module _ (w : T.Work) (members : ℕ) (is_long : Bool) where
         not_dismissed H.Left c = refl
         not_dismissed (H.Ending k) c = absurd (let e = c.0 in let no = can.2 in cc)
         not_dismissed H.Ended c = absurd (let e = c.0 in let no = can.2 in cc)
-        not_dismissed (H.Telling n) c = refl
-        not_dismissed H.Waiting c = refl
-        not_dismissed H.Woken c = refl
+        not_dismissed other c = refl
 
         enters_caller : enters_t.place 0 ≡ s.place 0
         enters_caller = elsewhere s.place j (H.Taking j 0) 0 (λ e. omega (arith, e, can.0.0))
@@ -1414,11 +1408,7 @@ module _ (w : T.Work) (members : ℕ) (is_long : Bool) where
         member_advanced k (H.Telling n) m = owes_still k (s.team.entered k) m
         member_advanced k H.Waiting m = owes_still k (s.team.entered k) m
         member_advanced k H.Woken m = owes_still k (suc (s.team.entered k)) m
-        member_advanced k H.Ended m = m
-        member_advanced k (H.Waking n) m = m
-        member_advanced k (H.Counting n) m = m
-        member_advanced k H.Left m = m
-        member_advanced k (H.Ending n) m = m
+        member_advanced k other m = m
 
         caller_advanced : Caller advances_t new_place
         caller_advanced = elim place_cases [
@@ -1436,7 +1426,7 @@ module _ (w : T.Work) (members : ℕ) (is_long : Bool) where
         ]
 
         team_can_advance : T.CanAdvance w s.team
-        team_can_advance = record { goes_on = going_on.over; more = going_on.more; through = through can.0; ok = can.1 }
+        team_can_advance = record { goes_on = going_on.over; more = going_on.more; through = through can.0; ok = λ i exists. omega (arith, can.1 i exists) }
 
         advances_kept : Holds advances_t
         advances_kept = record {
@@ -1494,22 +1484,10 @@ module _ (w : T.Work) (members : ℕ) (is_long : Bool) where
         member_stopped k is H.Waiting m = owes_then k is (s.team.entered k) m
         member_stopped k is H.Woken m = owes_then k is (suc (s.team.entered k)) m
         member_stopped k is H.Ended m = refl
-        member_stopped k is (H.Waking n) m = m
-        member_stopped k is (H.Counting n) m = m
-        member_stopped k is H.Left m = m
-        member_stopped k is (H.Ending n) m = m
+        member_stopped k is other m = m
 
         own_stopped : (k : ℕ) (at : H.Place) → Own s k at → Own stops_t k at
-        own_stopped k (H.Taking part n) o = o
-        own_stopped k (H.Working part n) o = o
-        own_stopped k (H.Telling n) o = o
-        own_stopped k H.Waiting o = o
-        own_stopped k H.Woken o = o
-        own_stopped k H.Ended o = o
-        own_stopped k (H.Waking n) o = o
-        own_stopped k (H.Counting n) o = o
-        own_stopped k H.Left o = o
-        own_stopped k (H.Ending n) o = o
+        own_stopped k other o = o
 
         place_then : (k : ℕ) → IsMember k → stops_t.place k ≡ s.place k
         place_then k is = elsewhere s.place 0 (H.Ending 1) k (λ e. omega (arith, e, is.0))
@@ -1567,47 +1545,43 @@ module _ (w : T.Work) (members : ℕ) (is_long : Bool) where
 
       -- ---- some thread can go on
 
-      abbrev Some : Type 0
-      Some = (m : H.Move w members is_long) × H.Can w members is_long s m
-
       -- thread j cannot go on: it waits and has no pending wake, or it has ended
       abbrev Stuck : ℕ → Type 0
       Stuck j = ((s.place j ≡ H.Waiting) × (s.wakes j ≡ 0)) ⊎ (s.place j ≡ H.Ended)
 
-      takes : (j part n : ℕ) → j ≤ members → s.place j ≡ H.Taking part n → Some
+      -- a move that changes nothing of the team
+      still : (m : H.Move w members is_long) → H.Can w members is_long s m → (H.after w members is_long s m).team ≡ s.team
+          → (H.IsWrite w members is_long m → ⊥) → Next s
+      still m can same no_write = Quiet m s.team.woken s.team.entered can same no_write
+
+      takes : (j part n : ℕ) → j ≤ members → s.place j ≡ H.Taking part n → Next s
       takes j part n inside is = elim (eqb_tells (s.team.state part) (2 * H.own_step w members is_long s j)) [
-        | inr x ↦ (H.Leaves j part n, (inside, is, inr x.1))
+        | inr x ↦ still (H.Leaves j part n) (inside, is, inr x.1) refl (λ e. e)
         | inl x ↦ elim (leb_tells (suc n) (most j)) [
-          | inl y ↦ (H.Claims j part n, (inside, is, omega (arith, y.1), x.1))
-          | inr y ↦ (H.Leaves j part n, (inside, is, inl (omega (arith, y.1))))
+          | inl y ↦ Claim j part n (inside, is, omega (arith, y.1), x.1)
+          | inr y ↦ still (H.Leaves j part n) (inside, is, inl (omega (arith, y.1))) refl (λ e. e)
         ]
       ]
 
-      finishes : (j part n : ℕ) → j ≤ members → s.place j ≡ H.Working part n → Some
-      finishes j part n inside is = (H.Finishes j part n 1, record { inside = inside; place = is; fills = λ e. absurd (omega (arith, e)) })
+      tells : (j n : ℕ) → IsMember j → s.place j ≡ H.Telling n → Next s
+      tells j zero member is = still (H.Waits j) (member, is) refl (λ e. e)
+      tells j (suc n) member is = still (H.Tells j n) (member, is) refl (λ e. e)
 
-      tells : (j n : ℕ) → IsMember j → s.place j ≡ H.Telling n → Some
-      tells j zero member is = (H.Waits j, (member, is))
-      tells j (suc n) member is = (H.Tells j n, (member, is))
+      looks : (j : ℕ) (over : Bool) → s.team.is_over ≡ over → IsMember j → s.place j ≡ H.Woken → Next s
+      looks j true over member is = still (H.Exits j) (member, is, over) refl (λ e. e)
+      looks j false over member is = Quiet (H.Enters j) s.team.woken (T.updated s.team.entered j (suc (s.team.entered j))) (member, is, over) refl (λ e. e)
 
-      looks : (j : ℕ) (over : Bool) → s.team.is_over ≡ over → IsMember j → s.place j ≡ H.Woken → Some
-      looks j true over member is = (H.Exits j, (member, is, over))
-      looks j false over member is = (H.Enters j, (member, is, over))
-
-      member_goes : (j : ℕ) → IsMember j → (at : H.Place) → s.place j ≡ at → Member s j at → Some ⊎ Stuck j
+      member_goes : (j : ℕ) → IsMember j → (at : H.Place) → s.place j ≡ at → Member s j at → Next s ⊎ Stuck j
       member_goes j member (H.Taking part n) is m = inl (takes j part n member.1 is)
-      member_goes j member (H.Working part n) is m = inl (finishes j part n member.1 is)
+      member_goes j member (H.Working part n) is m = inl (Work j part n member.1 is)
       member_goes j member (H.Telling n) is m = inl (tells j n member is)
       member_goes j member H.Waiting is m = elim (eqb_tells (s.wakes j) 0) [
         | inl x ↦ inr (inl (is, x.1))
-        | inr x ↦ inl (H.Awakes j, (member, is, omega (arith, x.1)))
+        | inr x ↦ inl (still (H.Awakes j) (member, is, omega (arith, x.1)) refl (λ e. e))
       ]
       member_goes j member H.Woken is m = inl (looks j s.team.is_over refl member is)
       member_goes j member H.Ended is m = inr (inr is)
-      member_goes j member (H.Waking n) is m = absurd m
-      member_goes j member (H.Counting n) is m = absurd m
-      member_goes j member H.Left is m = absurd m
-      member_goes j member (H.Ending n) is m = absurd m
+      member_goes j member other is m = absurd m
 
       -- if the caller's thread waits for parts and all other threads are stuck, all parts are done (`all_through`);
       -- if no wake is pending for the caller's thread either, d is w.tasks (`all_counted`)
@@ -1686,8 +1660,8 @@ module _ (w : T.Work) (members : ℕ) (is_long : Bool) where
             let all = total_all w.tasks (λ i. is_done s.team.step (s.team.state i)) all_through in
             omega (arith, k, all, none, none_untold, inv.count going_then.0.over)
 
-      search_members : (P : ℕ → Type 0) → ((j : ℕ) → IsMember j → Some ⊎ P j) → Some ⊎ ((j : ℕ) → IsMember j → P j)
-      search_members P each = elim (search_below members (λ i. P (suc i)) (λ i. Some) (λ i inside. elim (each (suc i) (omega (arith), omega (arith, inside))) [
+      search_members : (P : ℕ → Type 0) → ((j : ℕ) → IsMember j → Next s ⊎ P j) → Next s ⊎ ((j : ℕ) → IsMember j → P j)
+      search_members P each = elim (search_below members (λ i. P (suc i)) (λ i. Next s) (λ i inside. elim (each (suc i) (omega (arith), omega (arith, inside))) [
         | inl x ↦ inr x
         | inr x ↦ inl x
       ])) [
@@ -1697,16 +1671,16 @@ module _ (w : T.Work) (members : ℕ) (is_long : Bool) where
             subst P e (all (j - 1) (omega (arith, is.0, is.1))))
       ]
 
-      counts_or_other : (d : ℕ) → s.place 0 ≡ H.Counting d → Some
+      counts_or_other : (d : ℕ) → s.place 0 ≡ H.Counting d → Next s
       counts_or_other d at = elim (leb_tells (suc d) w.tasks) [
         | inr x ↦
             let k : known (s.place 0) ≡ d = rw at refl in
             let going : Going s × IsClaimed s 0 = subst (Caller s) at inv.caller in
             let most = total_most w.tasks (λ i. is_done s.team.step (s.team.state i)) (λ i. done_most s.team.step (s.team.state i)) in
             let full : d ≡ w.tasks = omega (arith, x.1, k, most, inv.count going.0.over) in
-            (H.Stops, inl (at ∙ ap H.Counting full))
+            Through (at ∙ ap H.Counting full)
         | inl x ↦ elim (eqb_tells (s.wakes 0) 0) [
-          | inr y ↦ (H.Counts d, (at, omega (arith, x.1), omega (arith, y.1)))
+          | inr y ↦ still (H.Counts d) (at, omega (arith, x.1), omega (arith, y.1)) refl (λ e. e)
           | inl y ↦ elim (search_members Stuck (λ j is. member_goes j is (s.place j) refl (inv.member j is))) [
             | inl some ↦ some
             | inr stuck ↦ absurd (let full = all_counted d at stuck y.1 in omega (arith, full, x.1))
@@ -1714,9 +1688,9 @@ module _ (w : T.Work) (members : ℕ) (is_long : Bool) where
         ]
       ]
 
-      ends_or_other : (k : ℕ) → s.place 0 ≡ H.Ending k → Some
+      ends_or_other : (k : ℕ) → s.place 0 ≡ H.Ending k → Next s
       ends_or_other k at = elim (leb_tells k members) [
-        | inl x ↦ (H.Dismisses k, (at, x.1))
+        | inl x ↦ still (H.Dismisses k) (at, x.1) refl (λ e. e)
         | inr x ↦
             let c : (s.team.is_over ≡ true) × (0 < k) × (k ≤ suc members) = subst (Caller s) at inv.caller in
             let e : k ≡ suc members = omega (arith, x.1, c.2) in
@@ -1734,29 +1708,34 @@ module _ (w : T.Work) (members : ℕ) (is_long : Bool) where
               ]
             ])) [
               | inl some ↦ some
-              | inr all ↦ (H.Returns, (at ∙ ap H.Ending e, all))
+              | inr all ↦ still H.Returns (at ∙ ap H.Ending e, all) refl (λ e. e)
             ]
       ]
 
-      wakes_or_begins : (k : ℕ) → s.place 0 ≡ H.Waking k → Some
+      wakes_or_begins : (k : ℕ) → s.place 0 ≡ H.Waking k → Next s
       wakes_or_begins k at = elim (leb_tells k members) [
-        | inl x ↦ (H.Wakes k, (at, x.1))
+        | inl x ↦ Quiet (H.Wakes k) (T.updated s.team.woken k (suc (s.team.woken k))) s.team.entered (at, x.1) refl (λ e. e)
         | inr x ↦
             let c : CallerWakes s k = subst (Caller s) at inv.caller in
-            let e : k ≡ suc members = (let last = c.last in omega (arith, x.1, last)) in (H.Begins, at ∙ ap H.Waking e)
+            let e : k ≡ suc members = (let last = c.last in omega (arith, x.1, last)) in still H.Begins (at ∙ ap H.Waking e) refl (λ e. e)
       ]
 
-      caller_goes : (at : H.Place) → s.place 0 ≡ at → Caller s at → at ≢ H.Ended → Some
-      caller_goes (H.Waking k) is c ne = wakes_or_begins k is
-      caller_goes (H.Taking part n) is c ne = takes 0 part n (omega arith) is
-      caller_goes (H.Working part n) is c ne = finishes 0 part n (omega arith) is
-      caller_goes (H.Counting d) is c ne = counts_or_other d is
-      caller_goes H.Left is c ne = (H.Stops, inr is)
-      caller_goes (H.Ending k) is c ne = ends_or_other k is
-      caller_goes H.Ended is c ne = absurd (ne refl)
-      caller_goes (H.Telling n) is c ne = absurd c
-      caller_goes H.Waiting is c ne = absurd c
-      caller_goes H.Woken is c ne = absurd c
+      pub caller_goes : (at : H.Place) → s.place 0 ≡ at → Caller s at → Next s ⊎ (at ≡ H.Ended)
+      caller_goes (H.Waking k) is c = inl (wakes_or_begins k is)
+      caller_goes (H.Taking part n) is c = inl (takes 0 part n (omega arith) is)
+      caller_goes (H.Working part n) is c = inl (Work 0 part n (omega arith) is)
+      caller_goes (H.Counting d) is c = inl (counts_or_other d is)
+      caller_goes H.Left is c = inl (AllTaken is)
+      caller_goes (H.Ending k) is c = inl (ends_or_other k is)
+      caller_goes H.Ended is c = inr refl
+      caller_goes other is c = absurd c
+
+      pub move_of : Next s → (m : H.Move w members is_long) × H.Can w members is_long s m
+      move_of (Quiet m woken entered can same no_write) = (m, can)
+      move_of (Claim j part n can) = (H.Claims j part n, can)
+      move_of (Work j part n inside is) = (H.Finishes j part n 1, record { inside = inside; place = is; fills = λ e. absurd (omega (arith, e)) })
+      move_of (Through at) = (H.Stops, inl at)
+      move_of (AllTaken at) = (H.Stops, inr at)
 
     pub all_hold : (s : Threads) → H.IsReached w members is_long s → Holds s
     all_hold s (H.starts u b) = holds_at_start u b
@@ -1767,7 +1746,11 @@ threads_are_a_team w members is_long apart s r = (all_hold w members is_long apa
 
 pub some_thread_can_go_on : (w : T.Work) (members : ℕ) (is_long : Bool) → T.IsApart w → H.SomeThreadCanGoOn w members is_long
 some_thread_can_go_on w members is_long apart s r ne =
-    let inv = all_hold w members is_long apart s r in caller_goes w members is_long apart s inv (s.place 0) refl inv.caller ne
+    let inv = all_hold w members is_long apart s r in
+    elim (caller_goes w members is_long apart s inv (s.place 0) refl inv.caller) [
+      | inl next ↦ move_of w members is_long apart s inv next
+      | inr e ↦ absurd (ne e)
+    ]
 
 pub all_threads_end : (w : T.Work) (members : ℕ) (is_long : Bool) → T.IsApart w → H.AllThreadsEnd w members is_long
 all_threads_end w members is_long apart s r ended =

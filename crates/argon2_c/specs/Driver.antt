@@ -8,7 +8,7 @@ use Rattle.argon2_c.specs.Jobs.{setting_of_job}
 use Rattle.argon2_c.specs.Steps.{Begins, Finishes, Verifies}
 use Rattle.argon2_c.specs.Runs.{FillsLane, IsMade, segment_of, slice_at}
 use Rattle.argon2_c.specs.Team.{IsReached, Team, Work, NobodyWorksAfterTheEnd}
-use Rattle.argon2_c.specs.Threads.{AllThreadsEnd, EveryRunEnds, SomeThreadCanGoOn, ThreadsAreATeam}
+use Rattle.argon2_c.specs.Threads.{Threads, HasReturned, IsReached as IsReachedByThreads, AllThreadsEnd, EveryRunEnds, SomeThreadCanGoOn, ThreadsAreATeam}
 use Rattle.argon2_c.specs.declared.jobs.CallerJob.{CallerJob}
 use Rattle.argon2_c.specs.declared.errors.CallError.TheVariants.{Mismatch}
 
@@ -71,12 +71,14 @@ EveryTeamGivesTheVerdict = (pwd salt : List ℕ) (config : Config) (len : ℕ) (
 abbrev pub NoThreadWorksAfterTheEnd : Type 0
 NoThreadWorksAfterTheEnd = (job : CallerJob) (tasks : ℕ) → 0 < tasks → NobodyWorksAfterTheEnd (work_of job tasks)
 
--- For each job and number of workers, a team can start with any four slices of the job's length, complete all steps, and
--- stop.
+-- For each job, number of workers, smaller number of other threads, and kind of parts, a call can start with any four
+-- slices of the job's length, complete all steps, and return. Since the threads are a team, a team can do so too.
 abbrev pub EveryJobCanBeFilled : Type 0
-EveryJobCanBeFilled = (pwd salt : List ℕ) (config : Config) (len : ℕ) (job : CallerJob) (tasks : ℕ) → IsMade pwd salt config len job → 0 < tasks
+EveryJobCanBeFilled = (pwd salt : List ℕ) (config : Config) (len : ℕ) (job : CallerJob) (tasks members : ℕ) (is_long : Bool)
+    → IsMade pwd salt config len job → members < tasks
     → (start : List (List (List ℕ))) → length start ≡ 4 → ((k : ℕ) → k < 4 → length (slice_at start k) ≡ job.lanes * job.segment_length)
-    → (s : Team (work_of job tasks)) × IsFilled job tasks s × (s.is_over ≡ true) × (s.before 0 ≡ start)
+    → (s : Threads (work_of job tasks) members is_long) × IsReachedByThreads (work_of job tasks) members is_long s
+    × HasReturned (work_of job tasks) members is_long s × IsFilled job tasks s.team × (s.team.is_over ≡ true) × (s.team.before 0 ≡ start)
 
 -- In the finer model: the threads make moves of a team. Until the call has returned, some thread can go on, and no run
 -- is infinite unless a proved call writes for ever. When the call has returned, all other threads have ended.

@@ -6,7 +6,6 @@ use Rattle.argon2_standard.specs.declared.config.Config.{Config}
 use Rattle.argon2_standard.specs.Standard.Prehash.{setting_of}
 use Rattle.argon2_standard.specs.Standard.SettingsTable.{table_error}
 use Rattle.argon2_standard.specs.Standard.Tag.{tag_of}
-use Rattle.argon2_fill.specs.Theorems.Turns.{EachHasATurn}
 use Rattle.argon2_c.specs.Jobs.{job_of, setting_of_job}
 use Rattle.argon2_c.specs.Steps.{Begins, Fills, Finishes, Verifies}
 use Rattle.argon2_c.specs.CallerBlocks.{HashesJob, JudgesJob, BlocksAndTag}
@@ -45,34 +44,6 @@ pub record IsRun (job : CallerJob) (slices : ℕ → List (List (List ℕ))) : T
   pub others : (n k : ℕ) → n < 4 * job.passes → k ≢ n % 4 → slice_at (slices (suc n)) k ≡ slice_at (slices n) k
   pub filled : (n lane : ℕ) → n < 4 * job.passes → lane < job.lanes → FillsLane job n lane (slices n)
       (segment_of job (slice_at (slices n) (n % 4)) lane) (segment_of job (slice_at (slices (suc n)) (n % 4)) lane)
-
--- ---- turns
-
--- only one lane's segment of one of the four slices is written
-pub record WritesLane (job : CallerJob) (slice lane : ℕ) (before after : List (List (List ℕ))) : Type 0 where
-  pub beside : remove after slice ≡ remove before slice
-  pub lanes : (l : ℕ) → l ≢ lane → segment_of job (slice_at after slice) l ≡ segment_of job (slice_at before slice) l
-
--- a lane's turn to begin
-pub record IsBegin (job : CallerJob) (lane : ℕ) (before after : List (List (List ℕ))) : Type 0 where
-  pub begun : Begins (setting_of_job job) lane (segment_of job (slice_at before 0) lane) (segment_of job (slice_at after 0) lane) (Ok tt)
-  pub only : WritesLane job 0 lane before after
-
--- a lane's turn in slice number n. Each turn sees what the turns before it wrote
-pub record IsFill (job : CallerJob) (n lane : ℕ) (before after : List (List (List ℕ))) : Type 0 where
-  pub filled : FillsLane job n lane before (segment_of job (slice_at before (n % 4)) lane) (segment_of job (slice_at after (n % 4)) lane)
-  pub only : WritesLane job (n % 4) lane before after
-
--- starting from any four slices, each lane has one turn to begin, and then one in each slice
-pub record IsRunOfTurns (job : CallerJob) (start : List (List (List ℕ))) (slices : ℕ → List (List (List ℕ))) : Type 0 where
-  pub four : (n : ℕ) → length (slices n) ≡ 4
-  pub long : (k : ℕ) → k < 4 → length (slice_at (slices 0) k) ≡ job.lanes * job.segment_length
-  pub begun : EachHasATurn (IsBegin job) job.lanes start (slices 0)
-  pub filled : (n : ℕ) → n < 4 * job.passes → EachHasATurn (IsFill job n) job.lanes (slices n) (slices (suc n))
-
--- whatever the order of the turns in each slice, they are a run
-abbrev pub EveryOrderOfTurnsIsARun : Type 0
-EveryOrderOfTurnsIsARun = (job : CallerJob) (start : List (List (List ℕ))) (slices : ℕ → List (List (List ℕ))) → IsRunOfTurns job start slices → IsRun job slices
 
 -- ---- the results after a run
 

@@ -170,16 +170,3 @@ EveryStepIsWhole w = (s : Team w) → IsReached w s
 -- Once the call is over, for whatever reason, no part is claimed: so nobody writes to memory.
 abbrev pub NobodyWorksAfterTheEnd : Work → Type 0
 NobodyWorksAfterTheEnd w = (s : Team w) → IsReached w s → s.is_over ≡ true → (n i : ℕ) → i < w.tasks → s.state i ≢ 2 * n + 1
-
--- Memory while each step fills one lane after another: `memory n l` once step n has filled the lanes below l.
-pub record IsFilling (w : Work) (memory : ℕ → ℕ → w.Memory) : Type 0 where
-  pub next : (n : ℕ) → n < w.steps → memory (suc n) 0 ≡ memory n w.lanes
-  pub keeps : (n l : ℕ) → n < w.steps → l < w.lanes → w.Keeps n (memory n l) (memory n (suc l))
-  pub others : (n l k : ℕ) → n < w.steps → l < w.lanes → k ≢ l → w.segment n k (memory n (suc l)) ≡ w.segment n k (memory n l)
-  pub fills : (n l : ℕ) → n < w.steps → l < w.lanes
-      → w.Fills n l (memory n w.lanes) (w.segment n l (memory n 0)) (w.segment n l (memory n w.lanes))
-
--- If each step can fill each lane, a team can start, take all steps, and stop.
-abbrev pub ATeamCanFinish : Work → Type 0
-ATeamCanFinish w = (memory : ℕ → ℕ → w.Memory) → IsFilling w memory
-    → (s : Team w) × IsReached w s × (s.step ≡ w.steps) × (s.is_over ≡ true) × (s.before 0 ≡ memory 0 0)

@@ -145,6 +145,10 @@ pub data IsReached (w : Work) (members : ℕ) (is_long : Bool) : Threads w membe
   moves : (s t : Threads w members is_long) (m : Move w members is_long) → IsReached w members is_long s → Can w members is_long s m
       → t ≡ after w members is_long s m → IsReached w members is_long t
 
+-- The call has returned.
+abbrev pub HasReturned : (w : Work) (members : ℕ) (is_long : Bool) → Threads w members is_long → Type 0
+HasReturned w members is_long s = s.place 0 ≡ Ended
+
 -- ---- the theorems, for work of which IsApart is true
 
 -- What the threads do are moves of a team.
@@ -159,7 +163,7 @@ SomeThreadCanGoOn w members is_long =
 -- After the call has returned, all other threads have ended.
 abbrev pub AllThreadsEnd : (w : Work) (members : ℕ) (is_long : Bool) → Type 0
 AllThreadsEnd w members is_long =
-    (s : Threads w members is_long) → IsReached w members is_long s → s.place 0 ≡ Ended → (j : ℕ) → IsMember w members is_long j → s.place j ≡ Ended
+    (s : Threads w members is_long) → IsReached w members is_long s → HasReturned w members is_long s → (j : ℕ) → IsMember w members is_long j → s.place j ≡ Ended
 
 abbrev pub IsWrite : (w : Work) (members : ℕ) (is_long : Bool) → Move w members is_long → Type 0
 IsWrite w members is_long (Writes j part n memory) = Unit {0}
@@ -170,3 +174,20 @@ abbrev pub EveryRunEnds : (w : Work) (members : ℕ) (is_long : Bool) → Type 0
 EveryRunEnds w members is_long = (left : Threads w members is_long → ℕ) × ((s : Threads w members is_long) (m : Move w members is_long)
     → IsReached w members is_long s → Can w members is_long s m
     → (left (after w members is_long s m) < left s) ⊎ (IsWrite w members is_long m × (left (after w members is_long s m) ≡ left s)))
+
+-- A step fills one lane's segment, and leaves the rest of the memory unchanged.
+pub record FillsOne (w : Work) (n l : ℕ) (before after : w.Memory) : Type 0 where
+  pub keeps : w.Keeps n before after
+  pub back : w.Keeps n after before
+  pub others : (k : ℕ) → k ≢ l → w.segment n k after ≡ w.segment n k before
+  pub fills : w.Fills n l before (w.segment n l before) (w.segment n l after)
+
+-- Each step can fill each lane, if the memory is suitable, and leaves the memory suitable.
+abbrev pub CanFill : (w : Work) → (w.Memory → Type 0) → Type 0
+CanFill w IsSuitable = (n l : ℕ) (before : w.Memory) → n < w.steps → l < w.lanes → IsSuitable before → (after : w.Memory) × IsSuitable after × FillsOne w n l before after
+
+-- From any suitable memory a run can begin in which the threads complete all steps, and the call returns.
+abbrev pub ACallCanFinish : (w : Work) (members : ℕ) (is_long : Bool) → (w.Memory → Type 0) → Type 0
+ACallCanFinish w members is_long IsSuitable = CanFill w IsSuitable → members < w.tasks → 0 < w.steps → (start : w.Memory) → IsSuitable start
+    → (s : Threads w members is_long) × IsReached w members is_long s × HasReturned w members is_long s × (s.team.step ≡ w.steps) × (s.team.is_over ≡ true)
+    × (s.team.before 0 ≡ start)

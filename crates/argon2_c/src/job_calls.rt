@@ -10,7 +10,7 @@ ghost use Rattle.argon2_c.specs.CallerBlocks.{HashesJob, JudgesJob};
 ghost use Rattle.argon2_c.specs.Driver.{EveryTeamGivesTheTag, EveryTeamGivesTheVerdict};
 ghost use Rattle.argon2_c.specs.Driver.{NoThreadWorksAfterTheEnd, EveryJobCanBeFilled, EveryCallReturns};
 ghost use Rattle.argon2_c.specs.ErrorTable.{IsCodeOf};
-ghost use Rattle.argon2_c.specs.Runs.{EveryOrderOfTurnsIsARun, EveryRunGivesTheTag, EveryRunGivesTheVerdict, OneCallGivesTheTag, OneCallGivesTheVerdict};
+ghost use Rattle.argon2_c.specs.Runs.{EveryRunGivesTheTag, EveryRunGivesTheVerdict, OneCallGivesTheTag, OneCallGivesTheVerdict};
 ghost use Rattle.argon2_c.specs.Settings.{config_of};
 
 use crate::ending::cleared;
@@ -170,11 +170,10 @@ pub extern "C" fn proved_argon2_encode(
 ///   the tag, and `verify` says whether a hash is the tag. The calls that take all steps in one
 ///   order return the same.
 /// - The same is true if threads of the driver's model take the steps (`team`, `team_verdict`).
-///   Such threads can take all steps of each job (`team_fills`). Once a call is over, no thread
-///   works (`team_end`). The threads never all wait, and a call ends unless a proved call in it
-///   writes for ever (`team_returns`).
+///   Such threads can take all steps of each job and return (`team_fills`). Once a call is over,
+///   no thread works (`team_end`). The threads never all wait, and a call ends unless a proved call
+///   in it writes for ever (`team_returns`).
 pub fn any_order_of_steps()
-    ensures turns { EveryOrderOfTurnsIsARun }
     ensures tag { EveryRunGivesTheTag }
     ensures verdict { EveryRunGivesTheVerdict }
     ensures one_call { OneCallGivesTheTag }

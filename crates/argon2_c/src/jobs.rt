@@ -130,6 +130,8 @@ impl CallerJob {
     }
 
     /// The library's job of these numbers, at its first slice. Numbers of no job are `NoJob`.
+    // Not inlined, so that the machine code checks the numbers of a job in one place.
+    #[inline(never)]
     pub fn job(&self) -> Result<Job, CallError>
         ensures { MatchResult result
             (λ job. setting_of_job self.now ≡ Some job.setting)

@@ -55,6 +55,9 @@ fn begin_lane(job: &Job, lane: u32, slice: &mut [Block])
 }
 
 /// Writes the first two blocks of each lane into slice 0.
+// Each stage of a hash is a function of its own in the machine code too, so that one statement says
+// what the stage does, and another in which order the stages come.
+#[inline(never)]
 pub fn begin_slice(job: &Job, slice: &mut [Block])
     requires slice_fits { length slice.old ≡ job.now.setting.lanes * job.now.setting.segment_length }
     ensures { IsReadySlice job.now.setting 0 0 (blocks_of_lane job.now.setting slice.new) }
@@ -130,6 +133,7 @@ fn fill_pair<E: Expects>(
 
 /// Fills the job's slice, two lanes by turns and then the next two, beside the other three in rising
 /// order. If the number of lanes is odd, the last one is filled alone.
+#[inline(never)]
 fn fill_caller_slice<E: Expects>(
     expects: &E,
     job: &Job,
@@ -234,6 +238,7 @@ fn combine_last_of_slice(job: &Job, slice: &[Block], out: &mut Block)
 
 /// Writes the hash of the last blocks of all lanes, combined (RFC 9106, 3.2, steps 7 and 8): the
 /// tag, if slice 3 holds the blocks of the last pass.
+#[inline(never)]
 pub fn finalize_slice(job: &Job, slice: &[Block], out: &mut [u8])
     requires slice_fits { length slice.now ≡ job.now.setting.lanes * job.now.setting.segment_length }
     requires some { 0 < length out.old }

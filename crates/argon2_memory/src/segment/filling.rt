@@ -152,6 +152,8 @@ pub(super) fn expect_reference<E: Expects, S: OtherBlocks, O: OwnBlocks>(
 }
 
 /// Writes the blocks from an index on, whose references are known.
+// Not inlined, for the reason that `pick` is not.
+#[inline(never)]
 fn write_blocks<E: Expects, S: OtherBlocks, O: OwnBlocks>(
     expects: &E,
     beside: &Beside<S>,

@@ -105,6 +105,9 @@ fn drawn_lane(job: &Job, lane: u32, word: u64) -> (u32, u32)
 }
 
 /// The lane and column that a word picks for the block at an index.
+// A function of its own in the machine code too, so that one statement about its few instructions
+// serves for all fills.
+#[inline(never)]
 pub fn pick(job: &Job, lane: u32, index: u32, word: u64) -> (u32, u32)
     requires lane_fits { lane < job.now.setting.lanes }
     requires index_fits { index < job.now.setting.segment_length }
@@ -172,6 +175,8 @@ fn turn_to(job: &Job, lane: u32, index: u32, is_first: bool, words: &mut Block)
 
 /// Writes the lanes and columns that the blocks from an index on refer to, in a segment whose
 /// references depend on no block.
+// Not inlined, for the reason that `pick` is not.
+#[inline(never)]
 pub fn reference_positions(job: &Job, lane: u32, first: u32, out: &mut [(u32, u32)])
     requires lane_fits { lane < job.now.setting.lanes }
     requires independent { is_data_independent job.now.setting.variant job.now.pass job.now.slice

@@ -6,12 +6,9 @@ use Rattle.argon2_c.specs.CallerBlocks.{HashesJob, JudgesJob, BlocksAndTag}
 use Rattle.argon2_c.specs.Runs.{IsMade, IsRun, slice_at}
 use Rattle.argon2_c.specs.declared.jobs.CallerJob.{CallerJob}
 use Rattle.argon2_c.specs.declared.errors.CallError.TheVariants.{Mismatch}
-use Rattle.argon2_c.proofs.Runs.{called_match, called_mismatch, called_tag, made_match, made_mismatch, made_tag, run_of_turns}
+use Rattle.argon2_c.proofs.Runs.{called_match, called_mismatch, called_tag, made_match, made_mismatch, made_tag}
 use Rattle.argon2_c.proofs.Driver.{every_team_gives_the_tag, every_team_gives_the_verdict, no_thread_works_after_the_end, every_job_can_be_filled, every_call_returns}
 use Rattle.argon2_c.proofs.job_calls.any_order_of_steps.Goals as goal
-
-pub returns-clause-turns : goal.returns-clause-turns
-returns-clause-turns c job start slices turns = run_of_turns job start slices turns
 
 pub returns-clause-tag : goal.returns-clause-tag
 returns-clause-tag c pwd salt config len job slices from run =
