@@ -1,4 +1,5 @@
-//! The memory of a hash: its slices, what its blocks refer to, its first blocks, and one that a caller provides.
+//! What no public call returns: the blocks that a block may refer to, the bytes that are hashed first, and how `Debug`
+//! prints blocks and a memory.
 
 ghost use Rattle.std.specs.Prelude.{◌≡◌, ◌+◌, ◌*◌, ◌/◌, ◌^◌, [], ◌∷◌};
 ghost use Rattle.argon2_blocks.specs.Standard.Word.{low_half};
@@ -7,55 +8,15 @@ ghost use Rattle.argon2_standard.specs.Standard.Setting.{Position, Setting};
 ghost use Rattle.argon2_standard.specs.declared.variant.Variant.TheVariants.{Argon2d};
 ghost use Rattle.argon2_standard.specs.declared.version.Version.TheVariants.{Version13};
 
-use super::{TAGS, Tested, rfc9106, two_lanes};
+use super::{Tested, two_lanes};
 use argon2_blocks::blake2b::{blake2b, hprime};
 use argon2_blocks::block::Block;
-use argon2_fill::caller_blocks::hash_over;
 use argon2_fill::fill::write_first_block;
 use argon2_memory::job::Job;
-use argon2_memory::memory::{Memory, take_slices};
-use argon2_memory::segment::{ExpectsNothing, pick, reference_set_column, reference_set_size};
+use argon2_memory::memory::Memory;
+use argon2_memory::segment::{pick, reference_set_column, reference_set_size};
 use argon2_standard::config::Config;
 use argon2_standard::context::Context;
-use std::process::Abort;
-use std::test::Fail;
-
-// ---- a memory and its slices
-
-/// Checks that in a memory of 4 lanes of 8 blocks only this block was written, to lane 1 and column
-/// 5.
-fn check_written(rt: &impl Abort, memory: &Memory, block: &Block) {
-    assert!(rt; memory.lanes() == 4 && memory.lane_length() == 8);
-    assert_eq!(rt; memory.writes(), 1);
-    assert!(rt; memory[13u32] == *block);
-    assert!(rt; memory[13u64] == *block);
-    assert!(rt; memory[(1, 5)] == *block);
-    for number in 0..32u32 {
-        assert!(rt; (memory[number] == Block::zero()) == (number != 13));
-    }
-}
-
-#[test]
-fn writes_one_block_and_counts_it(rt: HostRuntime) -> std::result::Result<(), Fail> {
-    let alloc = rt.alloc();
-    let mut memory = Memory::new(alloc, 4, 8)?;
-    assert!(rt; memory.lanes() == 4 && memory.lane_length() == 8);
-    assert_eq!(rt; memory.writes(), 0);
-    let mut block = Block::zero();
-    block[0] = 7;
-    block[127] = 8;
-    memory.set(1, 5, &block);
-    check_written(&rt, &memory, &block);
-    let text = format!(in alloc; "{memory:?}")?;
-    assert_eq!(rt; text.as_str(), "Memory { rows: 4, cols: 8 }");
-    let slices = take_slices(&mut memory);
-    assert!(rt; memory.lanes() == 0);
-    assert_eq!(rt; slices[2].len(), 4);
-    assert!(rt; *slices[2][1].block(1) == block);
-    Ok(())
-}
-
-// ---- what a block refers to. The positions of independent segments are rows of `argon2_vectors`
 
 /// The references of RFC 9106, 3.4.2, worked out by hand for two lanes and two blocks a segment. In the
 /// second pass, the first block of the third slice may refer in another lane to five blocks: the columns 6
@@ -108,8 +69,6 @@ fn picks_among_the_blocks_of_another_lane(rt: HostRuntime) -> Tested<()> {
     Ok(())
 }
 
-// ---- the inputs that are hashed first, as the first block of a lane shows them
-
 // The bytes, in hexadecimal, that are hashed first, for 2 lanes, a hash of 32 bytes, 256 KiB and 2
 // passes of Argon2d in version 0x13, with `password` and `somesalt`. The first block of lane 1 is
 // H' of H0, the column 0 and the lane.
@@ -138,22 +97,17 @@ fn hashes_the_stated_inputs_first(rt: HostRuntime) -> Tested<()> {
     Ok(())
 }
 
-// ---- a hash over a caller-provided memory, whatever its contents
-
 #[test]
-fn hashes_over_blocks_that_hold_anything(rt: HostRuntime) -> Tested<()> {
+fn prints_blocks_by_words_and_a_memory_by_its_size(rt: HostRuntime) -> Tested<()> {
     let alloc = rt.alloc();
-    for (variant, tag) in TAGS {
-        let context = Context::new(rfc9106(variant), &[1; 32], &[2; 16])?;
-        let mut blocks = Vec::new(alloc);
-        for n in 0..context.memory_blocks {
-            blocks.push(Block::from_words([u64::from(n) + 1; 128]))?;
-        }
-        let mut out = [0; 32];
-        assert_eq!(rt; blocks.len(), context.memory_blocks as usize);
-        assert_eq!(rt; out.len(), context.config.hash_length as usize);
-        hash_over(&ExpectsNothing, &context, &mut blocks[..], &mut out);
-        assert_eq!(rt; hex::encode(alloc, out)?.as_str(), tag);
-    }
+    let block = Block::from_words([7; 128]);
+    let line = format!(in alloc; "{block:?}")?;
+    assert!(rt; line.as_str().starts_with("[7, 7, 7, "));
+    assert_eq!(rt; line.len(), 3 * 128);
+    let lines = format!(in alloc; "{block:#?}")?;
+    assert!(rt; lines.as_str().starts_with("[\n    7,\n    7,\n"));
+    assert_eq!(rt; lines.as_str().lines().count(), 2 + 128);
+    let memory = format!(in alloc; "{:?}", Memory::new(alloc, 4, 128)?)?;
+    assert_eq!(rt; memory.as_str(), "Memory { rows: 4, cols: 128 }");
     Ok(())
 }
