@@ -23,9 +23,10 @@
  * run, each call that can fail returns PROVED_ARGON2_OLD_PROCESSOR before it reads variant, version or encoded hash,
  * and calls that return lengths, limits, settings or the version return zeros.
  *
- * Memory. A call that hashes or verifies allocates at most the settings' mem_cost KiB for its blocks, and memory for
- * the tag, and for the hash and the salt of an encoded hash. If the blocks need 2 MiB or more, they use huge pages if
- * the system has some, and small pages for the rest. All memory is freed before the call returns. It is
+ * Memory. A call that hashes or verifies allocates at most the settings' mem_cost KiB for its blocks if that is less
+ * than 2 MiB, and otherwise at most the next multiple of 2 MiB, the size of a huge page. (Such blocks use huge pages if
+ * the system has some. A short rest uses small pages.) It also allocates memory for the tag, and for the hash and the
+ * salt of an encoded hash. All memory is freed before the call returns. It is
  * overwritten first, or returned to the system, which clears it. Such a call also overwrites the stack below it and, if
  * compiled by GCC 11, clang 15 or newer, the vector registers.
  *
@@ -247,6 +248,12 @@ uint32_t proved_argon2_verify_encoded(
  * OWASP, libsodium and Django.
  */
 proved_argon2_limits proved_argon2_default_limits(void);
+
+/*
+ * The default limits, each raised to that of these settings if that is higher: so a hash that is made with them is
+ * always within them. For null settings all limits are 0.
+ */
+proved_argon2_limits proved_argon2_limits_for(const proved_argon2_settings *settings);
 
 /*
  * proved_argon2_verify_encoded within limits. It returns PROVED_ARGON2_TOO_COSTLY only if the encoded hash names more

@@ -1,5 +1,6 @@
 /*
- * For services: buffers that calls take and give back, and a search for settings. proved_argon2.h includes this header.
+ * For services: buffers that calls take and give back, how many hashes fit into memory, and a search for settings.
+ * proved_argon2.h includes this header.
  *
  * These calls are C code that is tested, not proved, like those of proved_argon2_threads.h.
  *
@@ -25,6 +26,9 @@
 extern "C" {
 #endif
 
+/* The most buffers of a handle. Each call looks at all of them, and a processor computes one hash at a time. */
+#define PROVED_ARGON2_MAX_BUFFERS 8192
+
 /* Settings that proved_argon2_tune found. */
 typedef struct proved_argon2_tuning {
     proved_argon2_settings settings; /* the settings */
@@ -34,7 +38,8 @@ typedef struct proved_argon2_tuning {
 /* clang-format off */
 /*
  * Writes a handle for at most `most` kept buffers, each as large as these settings need. It makes no buffer yet. The
- * call checks the settings as proved_argon2_hash_raw does.
+ * call checks the settings as proved_argon2_hash_raw does. If `most` is above PROVED_ARGON2_MAX_BUFFERS, it returns
+ * PROVED_ARGON2_OUT_OF_MEMORY.
  */
 PROVED_ARGON2_CHECKED
 uint32_t proved_argon2_buffers_new(
@@ -49,6 +54,14 @@ uint32_t proved_argon2_buffers_free_idle(proved_argon2_buffers *buffers);
 
 /* Frees a handle and its buffers. No call may be using it, or use it later. For null it does nothing. */
 void proved_argon2_buffers_free(proved_argon2_buffers *buffers);
+
+/*
+ * How many hashes with these settings fit into this many bytes of memory at a time. Each counts as what it allocates
+ * for its blocks: if they need 2 MiB or more, the next multiple of 2 MiB. Threads and inputs do not count. It returns 0
+ * for settings that no hash can have, and for null settings, and UINT32_MAX if there are more.
+ */
+PROVED_ARGON2_CHECKED
+uint32_t proved_argon2_hashes_at_once(const proved_argon2_settings *settings, uint64_t bytes);
 
 /*
  * Measures hashes on this machine, and writes strong settings whose hash takes at most this time. They have the memory

@@ -146,6 +146,39 @@ uint32_t proved_argon2_password_verify_with(
     const char *text, const void *password, size_t length, const uint8_t *pepper, size_t pepper_len);
 
 /*
+ * For a login: verifies a password against an encoded hash that was made with this pepper and this associated data. If
+ * the password matches, and text is outdated, it writes the encoded hash to store in place of text. A text is outdated
+ * if new_pepper_len is not 0, or if the text has other settings than options->new_settings or, unless
+ * options->new_salt_len is 0, a salt of another length. The call returns
+ *
+ *     PROVED_ARGON2_OK            if the password matches, and there is nothing to store
+ *     PROVED_ARGON2_NEEDS_REHASH  if the password matches, and new_text contains the encoded hash to store
+ *     PROVED_ARGON2_MISMATCH      if the password does not match
+ *
+ * or an error of proved_argon2_verify_encoded_with, which it calls with these options. Then nothing was compared, and
+ * nothing is written.
+ *
+ * Pass new_pepper if the pepper of new hashes is another one than that of text, and otherwise null and 0: then a new
+ * hash has the same pepper as text. A new hash has these new settings, the same associated data, and a salt of
+ * new_salt_len random bytes (0 means PROVED_ARGON2_SALT_SIZE). Zeros follow it up to new_text_len. If no new hash can
+ * be made, for example because no hash can have the settings, the system has no random bytes, or the progress callback
+ * stops it, the call returns PROVED_ARGON2_OK: the user can log in with the old hash.
+ *
+ * options->new_settings must not be null. new_text_len must be greater than the length of the encoded hash, as
+ * proved_argon2_encoded_len returns it: for any other length the call returns PROVED_ARGON2_WRONG_LENGTH. If it is 0,
+ * the call makes no new hash.
+ */
+PROVED_ARGON2_CHECKED
+uint32_t proved_argon2_password_renew(
+    const proved_argon2_options *options,
+    const char *text, size_t text_len,
+    const void *password, size_t length,
+    const uint8_t *pepper, size_t pepper_len,
+    const uint8_t *new_pepper, size_t new_pepper_len,
+    const uint8_t *ad, size_t ad_len,
+    char *new_text, size_t new_text_len);
+
+/*
  * For a login whose user does not exist: computes a hash of the password with these settings, so that it takes as long
  * as proved_argon2_password_verify_with does for a stored hash with these settings, and never matches. It returns
  * PROVED_ARGON2_MISMATCH, or the error that prevented a hash. The limits and new_settings of the options have no

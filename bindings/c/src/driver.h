@@ -34,6 +34,21 @@ typedef struct worker {
     uint32_t code;
 } worker;
 
+/* What filling the blocks needs, and all that the threads of a call share. It has neither the hash that is verified nor
+ * the tag nor the options, so that the code which fills blocks cannot change a verdict. */
+struct filling {
+    const proved_argon2_job *job;
+    block *blocks;
+    size_t slice; /* how many blocks each of the four slices has */
+    worker *workers;
+    uint32_t tasks;      /* how many workers there are */
+    team *team;          /* the call's own threads: one for each worker from 1 on, unless it was denied */
+    uint64_t step;       /* step 0 writes the first blocks, and step n + 1 fills slice number n, over all passes */
+    atomic_bool is_over; /* no further step follows */
+    proved_argon2_progress *progress;
+    void *arg;
+};
+
 /* The state of a call. The call overwrites this state at its end. */
 struct call {
     options with;
@@ -42,13 +57,7 @@ struct call {
     size_t len;
     bool is_rehash_due; /* the encoded hash has other settings than the options' */
     caller saved;
-    block *blocks;
-    size_t slice; /* how many blocks each of the four slices has */
-    worker *workers;
-    uint32_t tasks;      /* how many workers there are */
-    team *team;          /* the call's own threads: one for each worker from 1 on, unless it was denied */
-    uint64_t step;       /* step 0 writes the first blocks, and step n + 1 fills slice number n, over all passes */
-    atomic_bool is_over; /* no further step follows */
+    struct filling filling;
 };
 
 /* The size of the blocks of a job in bytes, which may be more than the address space has. */

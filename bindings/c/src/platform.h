@@ -7,6 +7,8 @@
 #include <stddef.h>
 #include <stdint.h>
 
+#define HUGE_PAGE ((size_t)2 << 20) /* bytes */
+
 /* Marks a function that clears, before it returns, the registers that its caller does not need. */
 #if __has_attribute(zero_call_used_regs)
 #define CLEARS_REGISTERS __attribute__((noinline, zero_call_used_regs("all")))

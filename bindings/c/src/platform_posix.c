@@ -14,8 +14,7 @@
 #include <unistd.h>
 
 #define LINE 64
-#define SECOND UINT64_C(1000000000) /* in nanoseconds */
-#define HUGE_PAGE ((size_t)2 << 20)
+#define SECOND UINT64_C(1000000000)   /* in nanoseconds */
 #define LONG_REST ((size_t)768 << 10) /* bytes behind the last whole huge page (docs/DECISIONS.md) */
 #define STACK (128 * 1024) /* bytes for a thread's calls; as many or more are added for thread-local variables */
 #define MOST_VARIABLES ((size_t)1 << 30)

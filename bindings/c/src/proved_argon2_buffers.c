@@ -58,9 +58,11 @@ uint32_t proved_argon2_buffers_new(const proved_argon2_settings *settings, uint3
     if (code != PROVED_ARGON2_OK) {
         return code;
     }
+    if (most > PROVED_ARGON2_MAX_BUFFERS) {
+        return PROVED_ARGON2_OUT_OF_MEMORY;
+    }
     const caller saved = proved_driver_keep_caller();
-    const uint64_t bytes = sizeof(buffers) + most * (uint64_t)sizeof(place);
-    buffers *const all = (size_t)bytes == bytes ? calloc(1, (size_t)bytes) : NULL;
+    buffers *const all = calloc(1, sizeof(buffers) + most * sizeof(place));
     proved_driver_restore_caller(saved);
     if (all == NULL) {
         return PROVED_ARGON2_OUT_OF_MEMORY;

@@ -271,3 +271,54 @@ end:
     code = proved_driver_end_call(&call, code);
     return code == PROVED_ARGON2_OK ? PROVED_ARGON2_MISMATCH : code;
 }
+
+/* Writes a hash with the new settings and a new salt. The settings are checked before the salt is allocated, which
+ * might be huge. */
+static uint32_t hash_anew(struct call *call, const options *with, size_t salt_len, const void *pwd, size_t pwd_len,
+    const uint8_t *pepper, size_t pepper_len, const uint8_t *ad, size_t ad_len, char *text, size_t text_len)
+{
+    uint32_t code = proved_argon2_check(with->new_settings, pwd_len, salt_len, pepper_len, ad_len);
+    if (code == PROVED_ARGON2_OK) {
+        code = proved_driver_take_bytes(call, salt_len);
+    }
+    if (code == PROVED_ARGON2_OK && !proved_driver_take_random(call->bytes, salt_len)) {
+        code = PROVED_ARGON2_NO_RANDOM_BYTES;
+    }
+    if (code != PROVED_ARGON2_OK) {
+        return code;
+    }
+    return proved_argon2_hash_encoded_with(
+        with, pwd, pwd_len, call->bytes, salt_len, pepper, pepper_len, ad, ad_len, with->new_settings, text, text_len);
+}
+
+uint32_t proved_argon2_password_renew(const options *with, const char *text, size_t text_len, const void *password,
+    size_t length, const uint8_t *pepper, size_t pepper_len, const uint8_t *new_pepper, size_t new_pepper_len,
+    const uint8_t *ad, size_t ad_len, char *new_text, size_t new_text_len)
+{
+    struct call call;
+    const bool is_missing = IS_MISSING(text) || (password == NULL && length != 0) || IS_MISSING(pepper)
+        || IS_MISSING(new_pepper) || IS_MISSING(ad) || IS_MISSING(new_text);
+    const bool has_new = new_pepper_len != 0;
+    uint32_t code = proved_driver_begin_call(&call, with, is_missing);
+    if (code == PROVED_ARGON2_OK && with->new_settings == NULL) {
+        code = PROVED_ARGON2_NULL_POINTER;
+    }
+    if (code != PROVED_ARGON2_OK) {
+        goto end;
+    }
+    const size_t salt_len = with->new_salt_len == 0 ? PROVED_ARGON2_SALT_SIZE : with->new_salt_len;
+    if (new_text_len != 0 && new_text_len <= proved_argon2_encoded_len(with->new_settings, (uint32_t)salt_len)) {
+        code = PROVED_ARGON2_WRONG_LENGTH;
+        goto end;
+    }
+    code = proved_argon2_verify_encoded_with(with, text, text_len, password, length, pepper, pepper_len, ad, ad_len);
+    if (code == PROVED_ARGON2_NEEDS_REHASH || (code == PROVED_ARGON2_OK && has_new)) {
+        const bool is_renewed = new_text_len != 0
+            && hash_anew(&call, with, salt_len, password, length, has_new ? new_pepper : pepper,
+                   has_new ? new_pepper_len : pepper_len, ad, ad_len, new_text, new_text_len)
+                == PROVED_ARGON2_OK;
+        code = is_renewed ? PROVED_ARGON2_NEEDS_REHASH : PROVED_ARGON2_OK;
+    }
+end:
+    return proved_driver_end_call(&call, code);
+}

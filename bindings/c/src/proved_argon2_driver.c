@@ -5,7 +5,6 @@
 #include <stdlib.h>
 #include <string.h>
 
-#define HUGE_PAGE ((size_t)2 << 20)
 #define WORK_FOR_THREADS (2 * HUGE_PAGE) /* bytes of blocks that are written */
 #define SHORT_PART 2048                  /* blocks: less work than a thread does before it is preempted */
 #define MOST_OPTIONS 4096                /* bytes: no version has larger options */
@@ -114,10 +113,10 @@ uint32_t proved_driver_end_call(struct call *call, uint32_t code)
 
 /* Claims a worker's part of a step. Exactly one thread succeeds, so that each part is taken once, even if threads are
  * late. Moves: Claims. */
-static bool claim(struct call *call, uint64_t step, uint32_t number)
+static bool claim(struct filling *filling, uint64_t step, uint32_t number)
 {
     uint64_t before = 2 * step;
-    return atomic_compare_exchange_strong(&call->workers[number].state, &before, before + 1);
+    return atomic_compare_exchange_strong(&filling->workers[number].state, &before, before + 1);
 }
 
 /* Writes a byte at the beginning of each huge page that begins in a segment. The blocks are not yet computed. */
@@ -130,84 +129,89 @@ static void touch_pages(block *segment, uint32_t length)
     }
 }
 
+static block *slice_of(const struct filling *filling, uint32_t number)
+{
+    return filling->blocks + number * filling->slice;
+}
+
 /* Writes the first blocks of a lane, which are in its segment of the first slice. If there are several threads, each
  * touches other pages first. If two of them touched the same page, the system would clear two pages for them. */
-static uint32_t begin_lane(struct call *call, uint32_t lane)
+static uint32_t begin_lane(const struct filling *filling, uint32_t lane)
 {
-    const uint32_t length = call->job.segment_length;
-    for (uint32_t slice = 0; slice < SLICES && call->tasks > 1; slice++) {
-        touch_pages(call->blocks + slice * call->slice + (size_t)lane * length, length);
+    const uint32_t length = filling->job->segment_length;
+    for (uint32_t slice = 0; slice < SLICES && filling->tasks > 1; slice++) {
+        touch_pages(slice_of(filling, slice) + (size_t)lane * length, length);
     }
-    return proved_argon2_job_begin(&call->job, lane, call->blocks + (size_t)lane * length, length);
+    return proved_argon2_job_begin(filling->job, lane, filling->blocks + (size_t)lane * length, length);
 }
 
 /* Fills the segments of one lane or two in a slice. The proved call reads the other three slices, which it takes in
  * rising order. */
-static uint32_t fill_segments(struct call *call, uint32_t pass, uint32_t slice, uint32_t lane, uint32_t lanes)
+static uint32_t fill_segments(
+    const struct filling *filling, uint32_t pass, uint32_t slice, uint32_t lane, uint32_t lanes)
 {
-    const uint32_t length = call->job.segment_length;
-    const block *others[SLICES - 1];
-    for (uint32_t i = 0; i < SLICES - 1; i++) {
-        others[i] = call->blocks + (i < slice ? i : i + 1) * call->slice;
-    }
-    return proved_argon2_job_fill(&call->job, pass, slice, lane, others[0], call->slice, others[1], call->slice,
-        others[2], call->slice, call->blocks + slice * call->slice + (size_t)lane * length, (size_t)lanes * length);
+    const uint32_t length = filling->job->segment_length;
+    const block *const first = slice_of(filling, slice < 1 ? 1 : 0);
+    const block *const second = slice_of(filling, slice < 2 ? 2 : 1);
+    const block *const third = slice_of(filling, slice < 3 ? 3 : 2);
+    return proved_argon2_job_fill(filling->job, pass, slice, lane, first, filling->slice, second, filling->slice, third,
+        filling->slice, slice_of(filling, slice) + (size_t)lane * length, (size_t)lanes * length);
 }
 
 /* Takes a step of a lane, or of two if it fills them. Step 0 begins the lane, and step n + 1 fills slice number n,
  * counted over all passes. Moves: Writes. */
-static uint32_t take_step_of_lanes(struct call *call, uint64_t step, uint32_t lane, uint32_t lanes)
+static uint32_t take_step_of_lanes(const struct filling *filling, uint64_t step, uint32_t lane, uint32_t lanes)
 {
     if (step == 0) {
-        return begin_lane(call, lane);
+        return begin_lane(filling, lane);
     }
-    return fill_segments(call, (uint32_t)((step - 1) / SLICES), (uint32_t)((step - 1) % SLICES), lane, lanes);
+    return fill_segments(filling, (uint32_t)((step - 1) / SLICES), (uint32_t)((step - 1) % SLICES), lane, lanes);
 }
 
 /* A worker's first lane. The lanes of the worker before it end there. */
-static uint32_t first_lane(const struct call *call, uint32_t number)
+static uint32_t first_lane(const struct filling *filling, uint32_t number)
 {
-    return (uint32_t)(((uint64_t)number * call->job.lanes + call->tasks - 1) / call->tasks);
+    return (uint32_t)(((uint64_t)number * filling->job->lanes + filling->tasks - 1) / filling->tasks);
 }
 
 /* Takes a step for all lanes of a worker, up to the first that fails. It fills two lanes at a time, which takes less
  * time than one after the other. It clears the registers: the thread may next call a function that is not yet bound,
  * and the loader would save them on the stack. */
-CLEARS_REGISTERS static void take_step(struct call *call, uint64_t step, uint32_t number)
+CLEARS_REGISTERS static void take_step(struct filling *filling, uint64_t step, uint32_t number)
 {
-    const uint32_t end = first_lane(call, number + 1);
+    const uint32_t end = first_lane(filling, number + 1);
     uint32_t code = PROVED_ARGON2_OK, lanes = 1;
-    for (uint32_t lane = first_lane(call, number); lane < end && code == PROVED_ARGON2_OK; lane += lanes) {
+    for (uint32_t lane = first_lane(filling, number); lane < end && code == PROVED_ARGON2_OK; lane += lanes) {
         lanes = step > 0 && lane + 1 < end ? 2 : 1;
-        code = take_step_of_lanes(call, step, lane, lanes);
+        code = take_step_of_lanes(filling, step, lane, lanes);
     }
-    call->workers[number].code = code;
-    call->workers[number].state = 2 * step + 2; /* Moves: Completes, Fails, Finishes. */
+    filling->workers[number].code = code;
+    filling->workers[number].state = 2 * step + 2; /* Moves: Completes, Fails, Finishes. */
 }
 
 /* Whether a worker's part of a step is so short that its thread may start too late; then others take it. If parts are
  * long, each thread starts before another has finished. */
-static bool are_parts_short(const struct call *call)
+static bool are_parts_short(const struct filling *filling)
 {
-    return call->slice <= (size_t)SHORT_PART * call->tasks;
+    return filling->slice <= (size_t)SHORT_PART * filling->tasks;
 }
 
 /* The worker before number; the last precedes the first. */
-static uint32_t worker_before(const struct call *call, uint32_t number)
+static uint32_t worker_before(const struct filling *filling, uint32_t number)
 {
-    return (number == 0 ? call->tasks : number) - 1;
+    return (number == 0 ? filling->tasks : number) - 1;
 }
 
 /* Takes a step for worker `number`, and then for the workers before it. Stops at a part that another thread claimed,
  * since that thread goes on from there. Takes at most `own` parts, or all if parts are short. Returns how many it took.
  * Moves: Leaves. */
-static uint32_t take_parts(struct call *call, uint64_t step, uint32_t number, uint32_t own)
+static uint32_t take_parts(struct filling *filling, uint64_t step, uint32_t number, uint32_t own)
 {
-    const uint32_t most = are_parts_short(call) ? call->tasks : own;
+    const uint32_t most = are_parts_short(filling) ? filling->tasks : own;
     uint32_t taken = 0, next = number;
-    while (taken < most && claim(call, step, next)) {
-        take_step(call, step, next);
-        next = worker_before(call, next);
+    while (taken < most && claim(filling, step, next)) {
+        take_step(filling, step, next);
+        next = worker_before(filling, next);
         taken++;
     }
     return taken;
@@ -218,10 +222,10 @@ static uint32_t take_parts(struct call *call, uint64_t step, uint32_t number, ui
  * caller's thread once for each part that it took. Moves: Awakes, Enters, Exits, Tells, Waits. */
 static void follow(void *arg, team *own, uint32_t number)
 {
-    struct call *const call = arg;
+    struct filling *const filling = arg;
     proved_driver_await(own, number);
-    for (uint64_t step = 0; !call->is_over; step++) {
-        for (uint32_t taken = take_parts(call, step, number, 1); taken > 0; taken--) {
+    for (uint64_t step = 0; !filling->is_over; step++) {
+        for (uint32_t taken = take_parts(filling, step, number, 1); taken > 0; taken--) {
             proved_driver_wake(own, 0);
         }
         proved_driver_await(own, number);
@@ -229,56 +233,55 @@ static void follow(void *arg, team *own, uint32_t number)
 }
 
 /* Wakes each thread of the team, for a step or for the last time. Moves: Wakes, Dismisses. */
-static void wake_team(struct call *call)
+static void wake_team(const struct filling *filling)
 {
-    const uint32_t threads = proved_driver_members(call->team);
+    const uint32_t threads = proved_driver_members(filling->team);
     for (uint32_t i = 1; i <= threads; i++) {
-        proved_driver_wake(call->team, i);
+        proved_driver_wake(filling->team, i);
     }
 }
 
 /* Takes a step. The caller's thread takes the part of worker 0, and those of the last workers if the system denied
  * them a thread. Then it waits for each part that another thread took. Moves: Begins, Counts. */
-static void run_team(struct call *call)
+static void run_team(struct filling *filling)
 {
-    wake_team(call);
-    for (uint32_t done = take_parts(call, call->step, 0, call->tasks - proved_driver_members(call->team));
-         done < call->tasks; done++) {
-        proved_driver_await(call->team, 0);
+    wake_team(filling);
+    for (uint32_t done = take_parts(filling, filling->step, 0, filling->tasks - proved_driver_members(filling->team));
+         done < filling->tasks; done++) {
+        proved_driver_await(filling->team, 0);
     }
 }
 
 /* Makes each worker take the step once, and tells the progress callback how many slices are filled. */
-static uint32_t run_step(struct call *call, uint64_t slices)
+static uint32_t run_step(struct filling *filling, uint64_t slices)
 {
-    const options *const with = &call->with;
     uint32_t code = PROVED_ARGON2_OK;
-    run_team(call);
-    for (uint32_t i = 0; i < call->tasks && code == PROVED_ARGON2_OK; i++) {
-        code = call->workers[i].code;
+    run_team(filling);
+    for (uint32_t i = 0; i < filling->tasks && code == PROVED_ARGON2_OK; i++) {
+        code = filling->workers[i].code;
     }
-    const bool is_reported = code == PROVED_ARGON2_OK && call->step != 0 && with->progress != NULL;
-    return is_reported && with->progress(with->arg, call->step, slices) != 0 ? PROVED_ARGON2_STOPPED : code;
+    const bool is_reported = code == PROVED_ARGON2_OK && filling->step != 0 && filling->progress != NULL;
+    return is_reported && filling->progress(filling->arg, filling->step, slices) != 0 ? PROVED_ARGON2_STOPPED : code;
 }
 
-/* Takes all steps, or those before an error, and ends the threads. (A check of the machine code leaves out this
- * function, so it is never inlined.) Moves: Advances, Stops, Returns. */
-static __attribute__((noinline)) uint32_t fill(struct call *call)
+/* Takes all steps, or those before an error, and ends the threads. (A check of the machine code finds what this
+ * function may write to, so it is never inlined.) Moves: Advances, Stops, Returns. */
+static __attribute__((noinline)) uint32_t fill(struct filling *filling)
 {
-    const uint64_t slices = SLICES * (uint64_t)call->job.passes;
+    const uint64_t slices = SLICES * (uint64_t)filling->job->passes;
     uint32_t code = PROVED_ARGON2_OK;
-    call->workers = calloc(call->tasks, sizeof(worker));
-    if (call->workers == NULL) {
+    filling->workers = calloc(filling->tasks, sizeof(worker));
+    if (filling->workers == NULL) {
         return PROVED_ARGON2_OUT_OF_MEMORY;
     }
-    call->team = call->tasks > 1 ? proved_driver_start_team(call->tasks - 1, follow, call) : NULL;
-    for (; call->step <= slices && code == PROVED_ARGON2_OK; call->step++) {
-        code = run_step(call, slices);
+    filling->team = filling->tasks > 1 ? proved_driver_start_team(filling->tasks - 1, follow, filling) : NULL;
+    for (; filling->step <= slices && code == PROVED_ARGON2_OK; filling->step++) {
+        code = run_step(filling, slices);
     }
-    call->is_over = true;
-    wake_team(call);
-    proved_driver_end_team(call->team);
-    free(call->workers);
+    filling->is_over = true;
+    wake_team(filling);
+    proved_driver_end_team(filling->team);
+    free(filling->workers);
     return code;
 }
 
@@ -304,21 +307,22 @@ static __attribute__((noinline)) void overwrite_blocks(block *blocks, size_t len
 /* Computes in one call if the caller's thread is alone and nothing reports progress; otherwise in steps. */
 static uint32_t compute_over(struct call *call, const uint8_t *hash, uint8_t *tag)
 {
-    const block *const last = call->blocks + 3 * call->slice;
-    const size_t all = 4 * call->slice, len = call->job.hash_length;
-    const bool is_alone = call->tasks == 1 && call->with.progress == NULL;
-    const uint32_t code = is_alone ? PROVED_ARGON2_OK : fill(call);
+    struct filling *const filling = &call->filling;
+    const block *const last = filling->blocks + 3 * filling->slice;
+    const size_t all = 4 * filling->slice, len = call->job.hash_length;
+    const bool is_alone = filling->tasks == 1 && filling->progress == NULL;
+    const uint32_t code = is_alone ? PROVED_ARGON2_OK : fill(filling);
     if (code != PROVED_ARGON2_OK) {
         return code;
     }
     /* The proofs assume that what a call writes to is initialized. The calls below do not fail: all was checked. */
     memset(tag, 0, len);
     if (is_alone) {
-        return hash == NULL ? proved_argon2_job_hash_over(&call->job, call->blocks, all, tag, len)
-                            : proved_argon2_job_verify_over(&call->job, call->blocks, all, hash, len, tag, len);
+        return hash == NULL ? proved_argon2_job_hash_over(&call->job, filling->blocks, all, tag, len)
+                            : proved_argon2_job_verify_over(&call->job, filling->blocks, all, hash, len, tag, len);
     }
-    return hash == NULL ? proved_argon2_job_finish(&call->job, last, call->slice, tag, len)
-                        : proved_argon2_job_verify(&call->job, last, call->slice, hash, len, tag, len);
+    return hash == NULL ? proved_argon2_job_finish(&call->job, last, filling->slice, tag, len)
+                        : proved_argon2_job_verify(&call->job, last, filling->slice, hash, len, tag, len);
 }
 
 /* How many threads a call uses of those it may use. With little memory or work, more threads take longer to start and
@@ -333,11 +337,11 @@ static uint32_t tasks_of(const struct call *call, uint64_t bytes)
 static uint32_t memory_error(const struct call *call, uint64_t bytes)
 {
     const bool is_callers = call->with.memory != NULL;
-    if ((uintptr_t)call->blocks % sizeof(uint64_t) != 0) {
+    if ((uintptr_t)call->filling.blocks % sizeof(uint64_t) != 0) {
         return PROVED_ARGON2_MISALIGNED;
     }
-    return call->blocks == NULL || (is_callers && call->with.memory_len < bytes) ? PROVED_ARGON2_OUT_OF_MEMORY
-                                                                                 : PROVED_ARGON2_OK;
+    return call->filling.blocks == NULL || (is_callers && call->with.memory_len < bytes) ? PROVED_ARGON2_OUT_OF_MEMORY
+                                                                                         : PROVED_ARGON2_OK;
 }
 
 /* Computes in the call's own blocks or the caller's, and leaves nothing in either. */
@@ -345,13 +349,18 @@ uint32_t proved_driver_compute(struct call *call, const uint8_t *hash, uint8_t *
 {
     const uint64_t bytes = bytes_of(&call->job);
     void *const own = call->with.memory == NULL ? take_blocks(bytes) : NULL;
-    call->blocks = own == NULL ? call->with.memory : own;
-    call->tasks = tasks_of(call, bytes);
-    call->slice = (size_t)(bytes / sizeof(block) / 4);
+    call->filling = (struct filling){
+        .job = &call->job,
+        .blocks = own == NULL ? call->with.memory : own,
+        .slice = (size_t)(bytes / sizeof(block) / 4),
+        .tasks = tasks_of(call, bytes),
+        .progress = call->with.progress,
+        .arg = call->with.arg,
+    };
     uint32_t code = memory_error(call, bytes);
     if (code == PROVED_ARGON2_OK) {
         code = compute_over(call, hash, tag);
-        overwrite_blocks(call->blocks, own == NULL ? (size_t)bytes : 0);
+        overwrite_blocks(call->filling.blocks, own == NULL ? (size_t)bytes : 0);
     }
     proved_argon2_memory_free(own, (size_t)bytes);
     return code;

@@ -12,9 +12,9 @@ static const proved_argon2_settings small = {PROVED_ARGON2_ID, PROVED_ARGON2_VER
  * length is at MEMORY_LEN; BUFFERS is that of a handle. */
 /* clang-format off */
 enum place {
-    END, OPTIONS, TEXT_READ, TEXT_ENDED, PWD, PASSWORD, SALT, SECRET, PEPPER, AD, SETTINGS, LIMITS, JOB, FIRST, SECOND,
-    THIRD, LAST, HASH, TAG_READ, MOST, MEMORY, MEMORY_LEN, BUFFERS, TUNING, BLOCKS, OUT, TAG_OUT, TEXT_WRITTEN,
-    TEXT_BUFFER, STORED, JOB_WRITTEN, OWN, SALT_WRITTEN, HASH_WRITTEN, TAG_WRITTEN, PLACES
+    END, OPTIONS, TEXT_READ, TEXT_ENDED, PWD, PASSWORD, SALT, SECRET, PEPPER, NEW_PEPPER, AD, SETTINGS, LIMITS, JOB,
+    FIRST, SECOND, THIRD, LAST, HASH, TAG_READ, MOST, MEMORY, MEMORY_LEN, BUFFERS, TUNING, BLOCKS, OUT, TAG_OUT,
+    TEXT_WRITTEN, TEXT_BUFFER, NEW_TEXT, STORED, JOB_WRITTEN, OWN, SALT_WRITTEN, HASH_WRITTEN, TAG_WRITTEN, PLACES
 };
 /* clang-format on */
 
@@ -98,6 +98,7 @@ static inline void give_to_read(void)
     give(SALT, "salt", inputs + 1, 8);
     give(SECRET, "secret", inputs + 2, 8);
     give(PEPPER, "pepper", inputs + 2, 8);
+    give(NEW_PEPPER, "new_pepper", inputs + 4, 8);
     give(AD, "ad", inputs + 3, 8);
     give(SETTINGS, "settings", &settings, 0);
     give(MOST, "most", &settings, 0);
@@ -125,6 +126,7 @@ static inline void give_to_write(void)
     give(TAG_OUT, "tag", written.out, TAG);
     give(TEXT_WRITTEN, "text", written.text, TEXT);
     give(TEXT_BUFFER, "text", written.text, 0);
+    give(NEW_TEXT, "new_text", written.text, TEXT);
     give(STORED, "stored", &written.stored, 0);
     give(JOB_WRITTEN, "job", &written.job, 0);
     give(OWN, "own", written.own, LENGTH);

@@ -11,12 +11,13 @@
  */
 #include "search.h"
 
-enum { NAMES = 14, OF_UNKNOWN = 13, WITH = 6, PLAIN = 11, MEMORIES = 4, KEPT = 3 };
+enum { NAMES = 15, OF_UNKNOWN = 13, OF_RENEWAL = 14, WITH = 6, PLAIN = 11, MEMORIES = 4, KEPT = 3 };
 
-/* The calls with options, those with none, the two of a password alone, and the one for an unknown user. */
+/* The calls with options, those with none, the two of a password alone, the one for an unknown user, and the one that
+ * verifies and renews. */
 static const char *const names[NAMES] = {"hash_raw_with", "hash_encoded_with", "job_run", "verify_raw_with",
     "verify_encoded_with", "job_run_verify", "hash_raw", "hash_encoded", "verify_raw", "verify_encoded",
-    "verify_encoded_within", "password_hash", "password_verify", "password_verify_unknown"};
+    "verify_encoded_within", "password_hash", "password_verify", "password_verify_unknown", "password_renew"};
 
 static _Alignas(8) uint8_t caller_bytes[2048 * 1024 + 8];
 static uint8_t out[512];
@@ -56,6 +57,17 @@ static uint32_t run_job(const struct trial *trial, bool is_hashing)
     return code;
 }
 
+/* Verifies a text, and renews it because its salt is not the longest. */
+static uint32_t renew(const struct trial *trial, const char *text)
+{
+    const struct call *const of = &calls[trial->call];
+    proved_argon2_options with = trial->with;
+    with.new_settings = &of->settings;
+    with.new_salt_len = of->salt_len + 1;
+    return proved_argon2_password_renew(&with, text, strlen(text), of->pwd, of->pwd_len, BYTES(*of, secret),
+        BYTES(*of, secret), BYTES(*of, ad), (char *)out, sizeof out);
+}
+
 #define STORED_OF(call) text, strlen(text), BYTES(call, pwd), BYTES(call, secret), BYTES(call, ad)
 
 static uint32_t answer(size_t name, const struct trial *trial)
@@ -83,6 +95,7 @@ static uint32_t answer(size_t name, const struct trial *trial)
     case OF_UNKNOWN:
         return proved_argon2_password_verify_unknown(
             &trial->with, &of->settings, of->pwd, of->pwd_len, of->secret, of->secret_len);
+    case OF_RENEWAL: return renew(trial, text);
     default: return proved_argon2_password_verify(text, of->pwd, of->pwd_len);
     }
 }
@@ -137,9 +150,17 @@ static size_t memories_of(size_t name)
 static struct trial trial_of(size_t name, size_t memory, uint32_t threads)
 {
     struct trial trial = over(memory, threads);
-    trial.call = name < PLAIN ? trial.call : name == OF_UNKNOWN ? UNKNOWN : ALONE;
+    trial.call = name < PLAIN || name == OF_RENEWAL ? trial.call : name == OF_UNKNOWN ? UNKNOWN : ALONE;
     trial.expected = trial.or_else = is_hashing(name) ? PROVED_ARGON2_OK : PROVED_ARGON2_MISMATCH;
     return trial;
+}
+
+/* What a call returns for the right hash. */
+static uint32_t done_of(size_t name)
+{
+    return name == OF_UNKNOWN ? PROVED_ARGON2_MISMATCH
+        : name == OF_RENEWAL  ? PROVED_ARGON2_NEEDS_REHASH
+                              : PROVED_ARGON2_OK;
 }
 
 static void check_cleared(size_t name, bool good, const char *where)
@@ -157,8 +178,8 @@ static void check_done(size_t name)
         struct trial trial = trial_of(name, n / 8, n % 2 == 0 ? 1 : 4);
         trial.with.progress = n / 2 % 2 == 0 ? NULL : goes_on;
         trial.is_right = n / 4 % 2 == 0;
-        const bool is_done = is_hashing(name) || (trial.is_right && name != OF_UNKNOWN);
-        trial.expected = trial.or_else = is_done ? PROVED_ARGON2_OK : PROVED_ARGON2_MISMATCH;
+        const bool is_done = is_hashing(name) || trial.is_right;
+        trial.expected = trial.or_else = is_done ? done_of(name) : PROVED_ARGON2_MISMATCH;
         good = good && is_cleared(name, &trial);
         n += name < WITH ? 0 : 3; /* (which has no options) */
     }
@@ -378,7 +399,7 @@ static void check_late(size_t name)
     struct trial trial = trial_of(name, 0, 4);
     bool good = is_cleared_before_a_late_call(name, &trial);
     trial.is_right = true;
-    trial.expected = trial.or_else = name == OF_UNKNOWN ? PROVED_ARGON2_MISMATCH : PROVED_ARGON2_OK;
+    trial.expected = trial.or_else = done_of(name);
     good &= is_cleared_before_a_late_call(name, &trial);
     trial.with.progress = stops_at;
     trial.with.arg = &at;

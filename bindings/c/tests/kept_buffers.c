@@ -118,6 +118,48 @@ static void check_each_call(void)
     check(end(), "and gives it back");
 }
 
+/* Handles of many buffers keep the first. Numbers of buffers that need more than 8 bits are none of fewer bits. */
+static void check_many(void)
+{
+    static const uint32_t numbers[] = {255, 256, 257, 4096, PROVED_ARGON2_MAX_BUFFERS};
+    bool good = true;
+    for (size_t i = 0; i < sizeof numbers / sizeof *numbers; i++) {
+        good = begin(numbers[i]) && hashes(&with, 1) && kept() == 1 && hashes(&with, 0) && end() && good;
+    }
+    check(good && PROVED_ARGON2_MAX_BUFFERS == 8192, "handles of up to 8,192 buffers");
+}
+
+/* ---- a thread that is cancelled */
+
+static bool is_after;
+
+static void test_cancellation(const void *block)
+{
+    (void)block;
+    pthread_testcancel();
+}
+
+static void *free_when_cancelled(void *arg)
+{
+    pthread_cancel(pthread_self());
+    look_at = test_cancellation; /* at each free() */
+    proved_argon2_buffers_free(with.buffers);
+    look_at = NULL;
+    is_after = true;
+    pthread_testcancel();
+    return arg;
+}
+
+static void check_cancelling(void)
+{
+    void *result = NULL;
+    pthread_t thread;
+    bool good = begin(2) && hashes(&with, 1);
+    good = pthread_create(&thread, NULL, free_when_cancelled, NULL) == 0 && pthread_join(thread, &result) == 0 && good;
+    look_at = NULL;
+    check(good && result == PTHREAD_CANCELED && is_after && held == 0, "a cancelled thread frees all buffers");
+}
+
 /* ---- denied memory */
 
 /* Denies all mappings, or none. */
@@ -231,11 +273,10 @@ static void check_refused(void)
     refuse_request(1);
     errno = 77;
     check_code(proved_argon2_buffers_new(&usual, 1, &made), PROVED_ARGON2_OUT_OF_MEMORY, "a denied handle");
-    deny_mappings(true);
-    const uint32_t code = proved_argon2_buffers_new(&usual, 1 << 28, &made);
-    deny_mappings(false);
-    check_code(code, PROVED_ARGON2_OUT_OF_MEMORY, "a handle of so many places that their bytes exceed 32 bits");
-    check(made == before && errno == 77, "nothing is written");
+    check_code(proved_argon2_buffers_new(&usual, PROVED_ARGON2_MAX_BUFFERS + 1, &made), PROVED_ARGON2_OUT_OF_MEMORY,
+        "a handle of more buffers than any has");
+    check_code(proved_argon2_buffers_new(&usual, UINT32_MAX, &made), PROVED_ARGON2_OUT_OF_MEMORY, "a handle of all");
+    check(made == before && errno == 77 && requests == 1, "nothing is written, and no memory requested for too many");
     proved_argon2_buffers_free(NULL);
 }
 
@@ -243,6 +284,8 @@ int main(void)
 {
     check_use();
     check_each_call();
+    check_many();
+    check_cancelling();
     check_denied();
     check_idle();
     check_idle_by_calls();

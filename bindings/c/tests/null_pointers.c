@@ -37,6 +37,8 @@ CALL(password_hash_with, arguments[OPTIONS].at, arguments[SETTINGS].at, argument
     BYTES(PEPPER))
 CALL(password_verify_with, arguments[OPTIONS].at, arguments[TEXT_ENDED].at, BYTES(PASSWORD), BYTES(PEPPER))
 CALL(password_verify_unknown, arguments[OPTIONS].at, arguments[SETTINGS].at, BYTES(PASSWORD), BYTES(PEPPER))
+CALL_AS(renew, password_renew, arguments[OPTIONS].at, BYTES(TEXT_READ), BYTES(PASSWORD), BYTES(PEPPER),
+    BYTES(NEW_PEPPER), BYTES(AD), BYTES(NEW_TEXT))
 CALL(job_check, arguments[JOB].at)
 CALL(job_read, STORED_TEXT, arguments[JOB_WRITTEN].at, BYTES(SALT_WRITTEN), BYTES(HASH_WRITTEN))
 CALL(encode, BYTES(SALT), arguments[SETTINGS].at, BYTES(TAG_READ), BYTES(TEXT_WRITTEN))
@@ -47,7 +49,15 @@ CALL(verify_encoded_with, arguments[OPTIONS].at, STORED_TEXT)
 CALL(job_run, arguments[OPTIONS].at, arguments[JOB].at, BYTES(TAG_OUT))
 CALL(job_run_verify, arguments[OPTIONS].at, arguments[JOB].at, BYTES(HASH))
 
-/* Three that return no error: null settings have length 0, and freeing null does nothing. */
+/* The text is renewed. */
+static uint32_t password_renew(void)
+{
+    options.new_settings = &settings;
+    const uint32_t code = renew();
+    return code == PROVED_ARGON2_NEEDS_REHASH ? PROVED_ARGON2_OK : code;
+}
+
+/* Some return no error: for null settings they return 0, and freeing null does nothing. */
 static uint32_t encoded_len(void)
 {
     const uint64_t len = proved_argon2_encoded_len(arguments[SETTINGS].at, 8);
@@ -64,6 +74,15 @@ static uint32_t memory_len(void)
         : len != 0                               ? PROVED_ARGON2_WRONG_LENGTH
         : arguments[SETTINGS].at == NULL         ? PROVED_ARGON2_NULL_POINTER
                                                  : PROVED_ARGON2_INCORRECT_TYPE;
+}
+
+static uint32_t hashes_at_once(void)
+{
+    const uint32_t count = proved_argon2_hashes_at_once(arguments[SETTINGS].at, sizeof blocks);
+    return count == 1                    ? PROVED_ARGON2_OK
+        : count != 0                     ? PROVED_ARGON2_WRONG_LENGTH
+        : arguments[SETTINGS].at == NULL ? PROVED_ARGON2_NULL_POINTER
+                                         : PROVED_ARGON2_INCORRECT_TYPE;
 }
 
 /* Frees a buffer that was allocated before. */
@@ -132,9 +151,11 @@ static const struct row {
     ROW(password_verify, TEXT_ENDED, PASSWORD),
     ROW(password_hash_with, OPTIONS, SETTINGS, TEXT_BUFFER, PASSWORD, PEPPER),
     ROW(password_verify_with, OPTIONS, TEXT_ENDED, PASSWORD, PEPPER),
-    ROW(password_verify_unknown, OPTIONS, SETTINGS, PASSWORD, PEPPER), ROW(job_check, JOB),
-    ROW(job_make, OF_INPUTS, JOB_WRITTEN), ROW(job_read, OF_TEXT, JOB_WRITTEN, SALT_WRITTEN, HASH_WRITTEN),
-    ROW(job_begin, JOB, OWN), ROW(job_fill, JOB, FIRST, SECOND, THIRD, OWN), ROW(job_finish, JOB, LAST, OUT),
+    ROW(password_verify_unknown, OPTIONS, SETTINGS, PASSWORD, PEPPER),
+    ROW(password_renew, OPTIONS, TEXT_READ, PASSWORD, PEPPER, NEW_PEPPER, AD, NEW_TEXT), ROW(hashes_at_once, SETTINGS),
+    ROW(job_check, JOB), ROW(job_make, OF_INPUTS, JOB_WRITTEN),
+    ROW(job_read, OF_TEXT, JOB_WRITTEN, SALT_WRITTEN, HASH_WRITTEN), ROW(job_begin, JOB, OWN),
+    ROW(job_fill, JOB, FIRST, SECOND, THIRD, OWN), ROW(job_finish, JOB, LAST, OUT),
     ROW(job_verify, JOB, LAST, HASH, TAG_WRITTEN), ROW(encode, SALT, SETTINGS, TAG_READ, TEXT_WRITTEN),
     ROW(hash_raw_with, OPTIONS, OF_INPUTS, OUT), ROW(hash_encoded_with, OPTIONS, OF_INPUTS, TEXT_WRITTEN),
     ROW(verify_raw_with, OPTIONS, OF_INPUTS, HASH), ROW(verify_encoded_with, OPTIONS, OF_TEXT),
@@ -231,7 +252,7 @@ static void check_order(void)
 /* Returns whether a call returns PROVED_ARGON2_OLD_PROCESSOR or, if it returns a length, 0. */
 static bool refuses_the_processor(const struct row *row)
 {
-    const bool gives_a_length = row->call == encoded_len || row->call == memory_len;
+    const bool gives_a_length = row->call == encoded_len || row->call == memory_len || row->call == hashes_at_once;
     give_what_fits();
     const uint32_t code = row->call();
     return code == (gives_a_length ? PROVED_ARGON2_INCORRECT_TYPE : PROVED_ARGON2_OLD_PROCESSOR)
@@ -251,6 +272,7 @@ static void check_without_a_build(void)
     options.size = sizeof options;
     check_code(hash_raw_with(), PROVED_ARGON2_OLD_PROCESSOR, "the processor comes before the variant");
     check(proved_argon2_library_version() == 0 && proved_argon2_default_limits().mem_cost == 0
+            && proved_argon2_limits_for(&small).mem_cost == 0 && proved_argon2_limits_for(&small).work == 0
             && proved_argon2_owasp2().version == 0 && proved_argon2_rfc9106().version == 0,
         "calls that return numbers return zeros on an older processor");
 }

@@ -1,6 +1,6 @@
 /*
- * Numbers of the header, compared with the library: each error with its message, and the recommended settings. Then
- * lengths of 2^32 bytes and more. results.c has the limits.
+ * Numbers of the header, compared with the library: each error with its message, the recommended settings, the limits
+ * for settings, and how many hashes fit into memory. Then lengths of 2^32 bytes and more. results.c has other limits.
  */
 #include "checks.h"
 
@@ -137,6 +137,60 @@ static void check_preset(const struct preset *preset)
         preset->name);
 }
 
+/* ---- what a service works out of its settings */
+
+/* A limit is the default one, or that of the settings if that is higher. */
+static void check_limits_for(void)
+{
+    const struct {
+        uint32_t mem_cost, time_cost, lanes;
+        proved_argon2_limits expected;
+        const char *name;
+    } rows[] = {{19456, 2, 1, {2097152, 10, 16, 4194304}, "settings below each default limit"},
+        {2097152, 2, 16, {2097152, 10, 16, 4194304}, "settings at the default limits"},
+        {2097153, 1, 1, {2097153, 10, 16, 4194304}, "memory above its limit"},
+        {1024, 11, 1, {2097152, 11, 16, 4194304}, "passes above their limit"},
+        {2048, 1, 17, {2097152, 10, 17, 4194304}, "lanes above their limit"},
+        {419431, 10, 1, {2097152, 10, 16, 4194310}, "only work above its limit"},
+        {UINT32_MAX, UINT32_MAX, 0xFFFFFF, {UINT32_MAX, UINT32_MAX, 0xFFFFFF, 18446744065119617025u},
+            "the highest settings"},
+        {0, 0, 0, {2097152, 10, 16, 4194304}, "settings that no hash can have"}};
+    for (size_t i = 0; i < sizeof rows / sizeof *rows; i++) {
+        const proved_argon2_settings settings = {2, 0x13, rows[i].mem_cost, rows[i].time_cost, rows[i].lanes, 32};
+        const proved_argon2_limits limits = proved_argon2_limits_for(&settings), *expected = &rows[i].expected;
+        check(limits.mem_cost == expected->mem_cost && limits.time_cost == expected->time_cost
+                && limits.lanes == expected->lanes && limits.work == expected->work,
+            rows[i].name);
+    }
+    const proved_argon2_limits none = proved_argon2_limits_for(NULL);
+    check(none.mem_cost == 0 && none.time_cost == 0 && none.lanes == 0 && none.work == 0, "no settings");
+}
+
+/* A hash of 2 MiB or more takes whole huge pages. */
+static void check_hashes_at_once(void)
+{
+    static const uint64_t kib = 1024, mib = 1024 * kib, highest = UINT32_MAX;
+    const struct {
+        uint32_t mem_cost, lanes;
+        uint64_t bytes, expected;
+        const char *name;
+    } rows[] = {{19456, 1, 200 * mib, 10, "ten hashes of 19 MiB, which take 20 MiB each"},
+        {19456, 1, 200 * mib - 1, 9, "a byte less"}, {47104, 1, 46 * mib, 1, "46 MiB are whole huge pages"},
+        {47104, 1, 46 * mib - 1, 0, "not one hash"}, {7168, 1, 16 * mib, 2, "7 MiB take 8 MiB"},
+        {2047, 1, 2044 * kib, 1, "less than 2 MiB takes what its blocks need"},
+        {2051, 1, 2 * mib, 1, "2 MiB take one huge page"}, {2052, 1, 4 * mib, 1, "4 KiB more take two"},
+        {2052, 1, 4 * mib - 1, 0, "two are not there"}, {64, 4, 640 * kib, 10, "ten small hashes"},
+        {8, 1, highest * 8 * kib - 1, highest - 1, "almost the most"}, {8, 1, highest * 8 * kib, highest, "the most"},
+        {8, 1, (highest + 1) * 8 * kib, highest, "one more than the most"}, {8, 1, UINT64_MAX, highest, "many more"},
+        {UINT32_MAX, 1, UINT64_MAX, 4194303, "all bytes"}, {8, 1, 0, 0, "no bytes"},
+        {7, 1, mib, 0, "settings that no hash can have"}};
+    for (size_t i = 0; i < sizeof rows / sizeof *rows; i++) {
+        const proved_argon2_settings settings = {2, 0x13, rows[i].mem_cost, 1, rows[i].lanes, 32};
+        check(proved_argon2_hashes_at_once(&settings, rows[i].bytes) == rows[i].expected, rows[i].name);
+    }
+    check(proved_argon2_hashes_at_once(NULL, UINT64_MAX) == 0, "hashes with no settings");
+}
+
 int main(void)
 {
     far = mmap(NULL, ABOVE, PROT_NONE, MAP_PRIVATE | MAP_ANONYMOUS | MAP_NORESERVE, -1, 0);
@@ -159,6 +213,8 @@ int main(void)
     for (size_t i = 0; i < sizeof presets / sizeof *presets; i++) {
         check_preset(&presets[i]);
     }
+    check_limits_for();
+    check_hashes_at_once();
     check(proved_argon2_library_version() == PROVED_ARGON2_LIBRARY_VERSION_NUMBER, "the version of the library");
     printf("version %s %u\n", PROVED_ARGON2_LIBRARY_VERSION, (unsigned)PROVED_ARGON2_LIBRARY_VERSION_NUMBER);
     return finish();

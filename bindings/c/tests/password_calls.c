@@ -119,6 +119,161 @@ static void check_rehash(void)
     check_code(rehash_verdict(options, endless, "password", 0), PROVED_ARGON2_STOPPED, "no limit of work");
 }
 
+/* ---- a hash that is verified and renewed */
+
+/* "password" in tests of rust-argon2, with the secret "secret" and the associated data "ad". */
+static const char stored[] = "$argon2i$v=19$m=4096,t=3,p=1$c29tZXNhbHQ$OlcSvlN20Lz43sK3jhCJ9K04oejhiY0AmI+ck6nuETo";
+static const proved_argon2_settings of_stored = {PROVED_ARGON2_I, PROVED_ARGON2_VERSION_13, 4096, 3, 1, 32};
+
+/* What a login is passed, which each check changes, and the new hash. */
+static struct login {
+    proved_argon2_options with;
+    const char *text, *password, *pepper, *new_pepper, *ad;
+    size_t new_text_len;
+} login;
+static char new_text[PROVED_ARGON2_TEXT_SIZE + 1];
+
+/* A login whose hash is up to date. */
+static void begin_login(void)
+{
+    const proved_argon2_options own = {.size = sizeof own, .new_settings = &of_stored, .new_salt_len = 8};
+    login = (struct login){own, stored, "password", "secret", "", "ad", PROVED_ARGON2_TEXT_SIZE};
+}
+
+#define BYTES(text) bytes_of(text), strlen(text)
+
+/* Logs in, and returns whether the code is this one, and whether new_text is written only for NEEDS_REHASH. */
+static bool gives(uint32_t expected)
+{
+    memset(new_text, 7, sizeof new_text);
+    const uint32_t code = proved_argon2_password_renew(&login.with, login.text, strlen(login.text),
+        BYTES(login.password), BYTES(login.pepper), BYTES(login.new_pepper), BYTES(login.ad), new_text,
+        login.new_text_len);
+    bool is_kept = true;
+    for (size_t i = code == PROVED_ARGON2_NEEDS_REHASH ? login.new_text_len : 0; i < sizeof new_text; i++) {
+        is_kept = is_kept && new_text[i] == 7;
+    }
+    return code == expected && is_kept;
+}
+
+/* Whether the login writes the encoded hash with these settings, a salt of this length and the pepper of new hashes. */
+static bool renews(const proved_argon2_settings *settings, size_t salt_len)
+{
+    char expected[PROVED_ARGON2_TEXT_SIZE] = {0};
+    uint8_t salt[32];
+    const char *const pepper_now = *login.new_pepper == 0 ? login.pepper : login.new_pepper;
+    fill_bytes(salt, sizeof salt, 0x80);
+    login.with.new_settings = settings;
+    return gives(PROVED_ARGON2_NEEDS_REHASH)
+        && proved_argon2_hash_encoded(BYTES(login.password), salt, salt_len, BYTES(pepper_now), BYTES(login.ad),
+               settings, expected, login.new_text_len)
+        == PROVED_ARGON2_OK
+        && memcmp(new_text, expected, login.new_text_len) == 0;
+}
+
+static void check_renewals(void)
+{
+    const proved_argon2_settings new_settings = proved_argon2_owasp5();
+    begin_login();
+    check(gives(PROVED_ARGON2_OK), "a hash that is up to date stays");
+    login.with.new_salt_len = 0;
+    check(gives(PROVED_ARGON2_OK), "so it does if no length of the salt is named");
+    check(renews(&new_settings, 16), "one with other settings is renewed, with a salt of 16 bytes");
+    begin_login();
+    login.with.new_salt_len = 9;
+    check(renews(&of_stored, 9), "one with another length of the salt is renewed, with that length");
+    begin_login();
+    login.new_pepper = "new";
+    check(renews(&of_stored, 8), "one with another pepper is renewed, with the new pepper");
+    login.text = strdup(new_text);
+    login.pepper = "new";
+    login.new_pepper = "";
+    check(gives(PROVED_ARGON2_OK), "the new hash is up to date");
+    login.new_pepper = "new";
+    check(renews(&of_stored, 8), "a new pepper always renews a hash");
+    free((char *)login.text);
+}
+
+static void check_other_verdicts(void)
+{
+    static const char *const others[] = {"", "Password", "password1", "passwor"};
+    begin_login();
+    login.new_pepper = "new";
+    for (size_t i = 0; i < sizeof others / sizeof *others; i++) {
+        login.password = others[i];
+        check(gives(PROVED_ARGON2_MISMATCH), "another password never matches");
+    }
+    login.password = "password";
+    login.pepper = "new";
+    check(gives(PROVED_ARGON2_MISMATCH), "the new pepper does not verify the old hash");
+    login.pepper = "secret";
+    login.ad = "bd";
+    check(gives(PROVED_ARGON2_MISMATCH), "nor do other data");
+    begin_login();
+    login.text = stored + 1;
+    check(gives(PROVED_ARGON2_DECODING_FAIL), "a text that is no hash");
+    begin_login();
+    const proved_argon2_limits least = {4096, 3, 1, 12287};
+    login.with.limits = &least;
+    check(gives(PROVED_ARGON2_TOO_COSTLY), "a hash above the limits");
+    begin_login();
+    login.with.new_settings = NULL;
+    check(gives(PROVED_ARGON2_NULL_POINTER), "no new settings");
+    begin_login();
+    login.with.size--;
+    check(gives(PROVED_ARGON2_WRONG_LENGTH), "options of a wrong size");
+}
+
+/* Stops a call after this many slices. */
+static int stop_at(void *arg, uint64_t done, uint64_t all)
+{
+    int *const left = arg;
+    return done <= all && --*left == 0;
+}
+
+/* The new hash has 95 characters. */
+static void check_new_hashes_that_fail(void)
+{
+    proved_argon2_settings other = of_stored;
+    int left = 0;
+    begin_login();
+    login.with.new_salt_len = 16;
+    login.new_text_len = 95;
+    check(gives(PROVED_ARGON2_WRONG_LENGTH), "no room for a new hash, although none is needed");
+    login.new_text_len = 0;
+    check(gives(PROVED_ARGON2_OK), "no new hash is wanted");
+    login.new_text_len = 96;
+    check(renews(&of_stored, 16), "there is just enough room");
+    no_random_bytes = 1;
+    check(gives(PROVED_ARGON2_OK), "a password matches although the system has no random bytes");
+    no_random_bytes = 0;
+    missing = 1;
+    check(gives(PROVED_ARGON2_OK), "or too few");
+    missing = 0;
+    login.with.progress = stop_at;
+    login.with.arg = &left;
+    left = 12;
+    check(gives(PROVED_ARGON2_STOPPED), "the verification is stopped");
+    left = 13;
+    check(gives(PROVED_ARGON2_OK) && left == 0, "the new hash is stopped");
+    left = 25;
+    check(gives(PROVED_ARGON2_NEEDS_REHASH) && left == 1, "both report their progress");
+    login.with.progress = NULL;
+    login.with.new_settings = &other;
+    login.new_text_len = PROVED_ARGON2_TEXT_SIZE;
+    other.time_cost = 0;
+    check(gives(PROVED_ARGON2_OK), "no hash can have the new settings");
+    other = of_stored;
+    other.variant = 3;
+    check(gives(PROVED_ARGON2_OK), "or their variant");
+    other = of_stored;
+    login.with.new_salt_len = (size_t)UINT32_MAX + 1;
+    asked_for = 0;
+    const bool is_too_long = login.with.new_salt_len > UINT32_MAX; /* (where addresses have 64 bits) */
+    check(gives(is_too_long ? PROVED_ARGON2_OK : PROVED_ARGON2_NEEDS_REHASH) && (!is_too_long || asked_for == 0),
+        "or such a long salt, which is not made");
+}
+
 /* ---- a user who does not exist */
 
 /* The least processor time, in seconds, of calls that return a mismatch. */
@@ -164,6 +319,9 @@ int main(void)
 {
     check_password();
     check_rehash();
+    check_renewals();
+    check_other_verdicts();
+    check_new_hashes_that_fail();
     check_unknown();
     return finish();
 }

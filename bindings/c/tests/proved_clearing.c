@@ -51,6 +51,11 @@ static uint32_t does_encoded_len(void)
     return proved_argon2_encoded_len(&MANY_CALL.settings, MANY_CALL.salt_len) == strlen(sought->text) ? 0 : 1;
 }
 
+static uint32_t does_hashes_at_once(void)
+{
+    return proved_argon2_hashes_at_once(&MANY_CALL.settings, sizeof blocks) == 1 ? 0 : 1;
+}
+
 static uint32_t does_memory_len(void)
 {
     return proved_argon2_memory_len(&MANY_CALL.settings) == sizeof blocks ? 0 : 1;
@@ -123,8 +128,8 @@ static const struct row {
     ROW(job_hash_over, 0, OF_TAG, BUFFERS), ROW(job_verify_over, 64, OF_TAG, BUFFERS),
     ROW(hash_over, 0, OF_TAG, BUFFERS), ROW(verify_over, 64, OF_TAG, BUFFERS), OTHER(read, KINDS),
     OTHER(read_within, KINDS), OTHER(read_bytes, OF_TAG), OTHER(needs_rehash, KINDS), OTHER(encode, KINDS),
-    OTHER(encoded_len, KINDS), OTHER(memory_len, KINDS), OTHER(message, KINDS), OTHER(check, KINDS),
-    OTHER(check_encoded, KINDS), OTHER(job_check, OF_H0)};
+    OTHER(encoded_len, KINDS), OTHER(memory_len, KINDS), OTHER(hashes_at_once, KINDS), OTHER(message, KINDS),
+    OTHER(check, KINDS), OTHER(check_encoded, KINDS), OTHER(job_check, OF_H0)};
 
 static uint32_t does_row(const void *arg)
 {

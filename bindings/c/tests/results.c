@@ -320,8 +320,10 @@ static void check_bytes(void)
 
 /* ---- limits */
 
-/* Returns whether the calls with limits reject a text for its cost, or else UINT32_MAX if they do not agree. */
-static uint32_t is_too_costly(const char *text, const proved_argon2_limits *limits)
+/* What all calls with limits say of a text, or that they disagree. */
+enum verdict_of_limits { WITHIN_LIMITS, TOO_COSTLY, DISAGREED };
+
+static enum verdict_of_limits verdict_of_limits(const char *text, const proved_argon2_limits *limits)
 {
     proved_argon2_options with = PROVED_ARGON2_OPTIONS;
     proved_argon2_stored stored, expected;
@@ -335,7 +337,8 @@ static uint32_t is_too_costly(const char *text, const proved_argon2_limits *limi
     const uint32_t expected_read = is_costly ? PROVED_ARGON2_TOO_COSTLY
                                              : proved_argon2_read(text, strlen(text), &expected);
     const bool is_read = read == expected_read && memcmp(&stored, &expected, sizeof stored) == 0;
-    return is_read && is_costly == (within == PROVED_ARGON2_TOO_COSTLY) ? is_costly : UINT32_MAX;
+    const bool is_agreed = is_read && is_costly == (within == PROVED_ARGON2_TOO_COSTLY);
+    return !is_agreed ? DISAGREED : is_costly ? TOO_COSTLY : WITHIN_LIMITS;
 }
 
 /* Each number of a text at its limit, and above it. */
@@ -347,19 +350,20 @@ static void check_limits(void)
     const struct {
         const char *text;
         proved_argon2_limits limits;
-        uint32_t is_costly;
+        enum verdict_of_limits expected;
         const char *name;
-    } rows[] = {{text, {UINT32_MAX, 0, 6, 0}, 0, "numbers at their limits"},
-        {text, {UINT32_MAX - 1, 0, 6, 0}, 1, "memory above its limit"},
-        {text, {UINT32_MAX, 0, 5, 0}, 1, "lanes above their limit"},
-        {lanes, {0, 0, UINT32_MAX - 1, 0}, 1, "very many lanes above their limit"},
-        {passes, {0, 7, 0, 0}, 0, "passes at their limit"}, {passes, {0, 6, 0, 0}, 1, "passes above their limit"},
-        {work, {UINT32_MAX, UINT32_MAX, 0, product}, 0, "the greatest work, at its limit"},
-        {work, {UINT32_MAX, UINT32_MAX, 0, product - 1}, 1, "the greatest work, above its limit"}};
+    } rows[] = {{text, {UINT32_MAX, 0, 6, 0}, WITHIN_LIMITS, "numbers at their limits"},
+        {text, {UINT32_MAX - 1, 0, 6, 0}, TOO_COSTLY, "memory above its limit"},
+        {text, {UINT32_MAX, 0, 5, 0}, TOO_COSTLY, "lanes above their limit"},
+        {lanes, {0, 0, UINT32_MAX - 1, 0}, TOO_COSTLY, "very many lanes above their limit"},
+        {passes, {0, 7, 0, 0}, WITHIN_LIMITS, "passes at their limit"},
+        {passes, {0, 6, 0, 0}, TOO_COSTLY, "passes above their limit"},
+        {work, {UINT32_MAX, UINT32_MAX, 0, product}, WITHIN_LIMITS, "the greatest work, at its limit"},
+        {work, {UINT32_MAX, UINT32_MAX, 0, product - 1}, TOO_COSTLY, "the greatest work, above its limit"}};
     const proved_argon2_limits limits = proved_argon2_default_limits();
     const size_t len = strlen(text_of_rfc);
     for (size_t i = 0; i < sizeof rows / sizeof *rows; i++) {
-        check_code(is_too_costly(rows[i].text, &rows[i].limits), rows[i].is_costly, rows[i].name);
+        check(verdict_of_limits(rows[i].text, &rows[i].limits) == rows[i].expected, rows[i].name);
     }
     uint32_t code = proved_argon2_verify_encoded_within(text_of_rfc, len, pwd, 32, secret, 8, ad, 12, &limits);
     check_code(code, PROVED_ARGON2_OK, "a text within limits matches");
@@ -389,9 +393,9 @@ static void check_limits_of_long_texts(void)
     for (size_t i = 0; i < sizeof lengths / sizeof *lengths; i++) {
         const char *const text = text_of_length(lengths[i]);
         snprintf(name, sizeof name, "a text of %zu characters at its limits", lengths[i]);
-        check_code(is_too_costly(text, &at), 0, name);
+        check(verdict_of_limits(text, &at) == WITHIN_LIMITS, name);
         snprintf(name, sizeof name, "a text of %zu characters above a limit", lengths[i]);
-        check_code(is_too_costly(text, &below), 1, name);
+        check(verdict_of_limits(text, &below) == TOO_COSTLY, name);
         snprintf(name, sizeof name, "a text of %zu characters above the default limits", lengths[i]);
         check_code(proved_argon2_password_verify(text, "", 0), PROVED_ARGON2_TOO_COSTLY, name);
     }
@@ -477,12 +481,13 @@ static void check_new_buffer(uint32_t kib, const char *name)
 {
     const proved_argon2_settings settings = {PROVED_ARGON2_ID, PROVED_ARGON2_VERSION_13, kib, 1, 1, 32};
     const size_t size = (size_t)kib * 1024;
-    void *memory = NULL, *const before = malloc(size);
+    volatile uint8_t *const before = malloc(size); /* (volatile, or else the compiler drops what is freed unread) */
+    void *memory = NULL;
     size_t len = 0, others = 0;
-    if (before != NULL) {
-        memset(before, 5, size);
+    for (size_t i = 0; before != NULL && i < size; i++) {
+        before[i] = 5;
     }
-    free(before);
+    free((void *)before);
     const uint32_t code = proved_argon2_memory_new(&settings, &memory, &len);
     for (size_t i = 0; code == PROVED_ARGON2_OK && i < len; i++) {
         others += ((const uint8_t *)memory)[i] != 0;

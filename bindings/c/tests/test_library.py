@@ -65,7 +65,7 @@ def calls(of=r'(?:PROVED_ARGON2_CHECKED (?:static inline )?uint\d+_t|\bvoid)'):
     given."""
     text = ' '.join(line for line in HEADERS.splitlines() if not line.startswith('#'))
     found = re.findall(rf'{of} proved_argon2_(\w+)\(([^()]*)\)', text)
-    assert len(found) == 41
+    assert len(found) == 43
     return {name: [' '.join(given.split()) for given in arguments.split(',')] for name, arguments in found}
 
 

@@ -57,6 +57,28 @@ static void check_tags(uint32_t count, uint32_t most_lanes)
     check(good == count, "tags, verdicts and texts by threads");
 }
 
+/* Many passes, in steps: so many that their slices, counted over all passes, need more than 16 bits, and fewer by
+ * threads, which need larger memory. Returns whether all tags are those of libargon2. */
+static bool agrees_in_many_passes(uint32_t mem_cost, uint32_t passes, uint32_t lanes)
+{
+    const struct call call = {{PROVED_ARGON2_ID, PROVED_ARGON2_VERSION_13, mem_cost, passes, lanes, 32}, "password",
+        "somesalt", "", "", 8, 8, 0, 0};
+    proved_argon2_options with = by(lanes);
+    uint8_t tag[LONGEST], expected[LONGEST];
+    const bool good = peer(&call, expected) && hash_raw(&with, &call, tag) == PROVED_ARGON2_OK
+        && memcmp(tag, expected, 32) == 0;
+    with.progress = goes_on;
+    return hash_raw(&with, &call, tag) == PROVED_ARGON2_OK && memcmp(tag, expected, 32) == 0 && good;
+}
+
+static void check_many_passes(void)
+{
+    check(agrees_in_many_passes(8, 16500, 1), "16,500 passes over 8 blocks");
+    refuse_nothing();
+    const bool good = agrees_in_many_passes(2048, 300, 4);
+    check(good && granted == 2 * 3, "300 passes by four threads");
+}
+
 /* A signal handler that runs while a thread waits ends the wait, but the thread must not go on before it is woken. */
 static void check_interrupted_waits(void)
 {
@@ -149,6 +171,7 @@ int main(int argc, char **argv)
     }
     check_address_space();
     check_tags(400, 100);
+    check_many_passes();
     check_interrupted_waits();
     check_at_once(1);
     check_at_once(THREADS);

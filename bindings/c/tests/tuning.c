@@ -164,6 +164,41 @@ static void check_disturbed(void)
     check(by_two, "of three hashes the fastest counts");
 }
 
+/* Returns whether the search keeps the variant, the version, the lanes and the length of the hash: in the settings of
+ * each hash that it tries, and in those that it finds. */
+static bool keeps(const proved_argon2_settings *asked)
+{
+    static const proved_argon2_options options = PROVED_ARGON2_OPTIONS;
+    proved_argon2_tuning found;
+    begin(1);
+    bool good = proved_argon2_tune(&options, asked, 200 * MILLISECOND, &found) == PROVED_ARGON2_OK && own.hashes > 0;
+    for (uint32_t i = 0; i <= own.hashes && i < MOST_HASHES; i++) {
+        const proved_argon2_settings *const is = i < own.hashes ? &own.tried[i] : &found.settings;
+        good = good && is->variant == asked->variant && is->version == asked->version && is->lanes == asked->lanes
+            && is->hash_length == asked->hash_length;
+    }
+    if (!good) {
+        printf("%u KiB: variant %u, version %u, %u lanes, %u bytes\n", asked->mem_cost, found.settings.variant,
+            found.settings.version, found.settings.lanes, found.settings.hash_length);
+    }
+    return good;
+}
+
+/* Each variant and version, with odd and even memory, one lane to many, and hashes from the shortest to long ones. */
+static void check_kept(void)
+{
+    static const uint32_t memory[] = {7168, 19455, 19456, 32767, 65535, 65536, 65537}, lanes[] = {1, 4, 9, 64},
+                          lengths[] = {4, 16, 31, 32, 33, 64, 1024};
+    bool good = true;
+    for (uint32_t i = 0; i < 3 * 2 * 7 * 4 * 7; i++) {
+        const proved_argon2_settings asked = {i % 3,
+            i / 3 % 2 == 0 ? PROVED_ARGON2_VERSION_10 : PROVED_ARGON2_VERSION_13, memory[i / 6 % 7], 0,
+            lanes[i / 42 % 4], lengths[i / 168]};
+        good = keeps(&asked) && good;
+    }
+    check(good, "the search keeps what it is asked for beside memory and passes");
+}
+
 /* ---- how long it takes */
 
 static void check_far(void)
@@ -289,6 +324,7 @@ int main(void)
 {
     check_table();
     check_disturbed();
+    check_kept();
     check_far();
     check_options();
     check_errors();

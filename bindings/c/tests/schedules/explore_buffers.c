@@ -6,9 +6,9 @@
  *
  * Each caller makes CALLS calls with a handle of at most MOST buffers. Callers are run one at a time. Another may run
  * before each atomic access (accesses.c), and during each hash, at most SWITCHES times. In a run one buffer may be
- * denied, the time may pass after which idle buffers are freed, and a hash may fork: its process then goes on as the
- * child, which has no other caller. The callers are the threads from number 1 on. Thread 0 begins them, and looks at
- * what they leave. */
+ * denied, the time may pass after which idle buffers are freed, one hash may be stopped or fail, and a hash may fork:
+ * its process then goes on as the child, which has no other caller. The callers are the threads from number 1 on.
+ * Thread 0 begins them, and looks at what they leave. */
 #include "driver.h"
 #include "explore.h"
 
@@ -32,7 +32,8 @@ static struct buffer {
 static struct run {
     uint64_t now;
     uint32_t left; /* callers that are not done */
-    bool is_denied, is_late, is_forked, is_ending;
+    bool is_denied, is_late, is_forked, is_ending, has_failed;
+    uint32_t codes[MOST_THREADS]; /* what a caller's hash returned last */
     proved_argon2_buffers *handle;
     struct buffer *used[MOST_THREADS]; /* what a caller gives back when it looks at the clock next, or null */
 } run;
@@ -115,13 +116,21 @@ uint32_t proved_argon2_check(
     return settings->lanes == 1 && pwd_len + secret_len + ad_len == 0 && salt_len == 8 ? PROVED_ARGON2_OK : 1;
 }
 
+/* What a hash returns: one in a run is stopped, or fails. */
+static uint32_t end_hash(void)
+{
+    static const uint32_t codes[] = {PROVED_ARGON2_STOPPED, PROVED_ARGON2_MISMATCH};
+    run.codes[current] = current != 0 && happens_once(&run.has_failed) ? codes[choose(2)] : PROVED_ARGON2_OK;
+    return run.codes[current];
+}
+
 /* A hash, in the buffer that the call has, or else in its own memory. */
 uint32_t proved_driver_compute(struct call *call, const uint8_t *hash, uint8_t *tag)
 {
     (void)hash;
     (void)tag;
     if (call->with.memory == NULL) {
-        return PROVED_ARGON2_OK;
+        return end_hash();
     }
     struct buffer *const buffer = buffer_of(call->with.memory);
     must(call->with.memory_len == KIB && buffer->user == NOBODY, "nobody else uses the buffer");
@@ -133,7 +142,7 @@ uint32_t proved_driver_compute(struct call *call, const uint8_t *hash, uint8_t *
     must(buffer_of(call->with.memory) == buffer && buffer->user == current, "a used buffer stays");
     buffer->user = NOBODY;
     run.used[current] = buffer;
-    return PROVED_ARGON2_OK;
+    return end_hash();
 }
 
 /* ---- a run */
@@ -143,7 +152,8 @@ static bool make_call(void)
 {
     struct call call = {.with = PROVED_ARGON2_OPTIONS, .job = {.lanes = 1, .segment_length = 0}};
     call.with.buffers = run.handle;
-    must(proved_driver_compute_kept(&call, NULL, NULL) == PROVED_ARGON2_OK, "a call succeeds");
+    const uint32_t code = proved_driver_compute_kept(&call, NULL, NULL);
+    must(code == run.codes[current], "a call returns what its hash does");
     return call.with.memory != NULL;
 }
 

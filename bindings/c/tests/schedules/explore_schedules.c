@@ -77,11 +77,11 @@ static bool fails(uint32_t code)
 /* ---- the model, which must allow each run */
 
 static struct model {
-    const struct call *call;
-    uint64_t step, woken[MOST_THREADS], entered[MOST_THREADS], state[MOST_THREADS];
+    const struct filling *filling;
+    uint64_t step, woken[MOST_THREADS], entered[MOST_THREADS], state[MOST_THREADS], code[MOST_THREADS];
     uint64_t written[MOST_THREADS]; /* one more than the step in which each lane was written last */
     uint32_t owner[MOST_THREADS];   /* the thread that claimed a worker's part last */
-    bool is_over;
+    bool is_over, has_begun;
 } model;
 
 #include "team_moves.h" /* the moves of Team.antt (moves.py) */
@@ -89,12 +89,12 @@ static struct model {
 /* The worker that has a lane. */
 static uint64_t worker_of(uint64_t lane)
 {
-    return lane * model.call->tasks / asked.lanes;
+    return lane * model.filling->tasks / asked.lanes;
 }
 
 static bool is_at_work(void)
 {
-    return model.call != NULL && model.call->workers != NULL;
+    return model.filling != NULL && model.filling->workers != NULL;
 }
 
 /* Returns whether Threads.antt covers the run: it has no forked children. */
@@ -113,8 +113,8 @@ static bool is_own(uint64_t step)
 /* Makes the moves that the driver has made for all workers that are in a step, or for all that are not. */
 static void move_workers(bool are_in_step)
 {
-    for (uint32_t i = 0; i < model.call->tasks; i++) {
-        const worker *const worker = &model.call->workers[i];
+    for (uint32_t i = 0; i < model.filling->tasks; i++) {
+        const worker *const worker = &model.filling->workers[i];
         if (model.state[i] % 2 == are_in_step && model.state[i] != worker->state) {
             const uint64_t step = model.state[i] / 2;
             if (!are_in_step) {
@@ -128,7 +128,6 @@ static void move_workers(bool are_in_step)
                 must(model.owner[i] == current, "Fails");
                 make_Fails(step, i, worker->code);
             }
-            model.state[i]++;
         }
     }
 }
@@ -136,22 +135,24 @@ static void move_workers(bool are_in_step)
 /* Makes the moves of the running thread since the last look. No other thread ran, so their order is known. */
 static void look_at_moves(void)
 {
-    const struct call *const call = model.call;
+    const struct filling *const filling = model.filling;
     if (!is_at_work()) {
         return;
     }
     move_workers(true);
-    if (model.step != call->step && run.code == PROVED_ARGON2_OK) {
+    if (model.step != filling->step && run.code == PROVED_ARGON2_OK) {
         make_Advances();
-        model.step++;
         if (has_places()) {
             see_advance();
         }
     }
     move_workers(false);
-    if (call->is_over && !model.is_over) {
+    if (filling->is_over && !model.is_over) {
         make_Stops();
-        model.is_over = true;
+    }
+    must(model.is_over == filling->is_over && (model.step == filling->step || run.code != PROVED_ARGON2_OK), "after");
+    for (uint32_t i = 0; i < filling->tasks; i++) {
+        must(model.state[i] == filling->workers[i].state, "after");
     }
 }
 
@@ -215,7 +216,6 @@ void proved_driver_wake(team *own, uint32_t number)
     if (number != 0 && !model.is_over) {
         must(current == 0 && model.woken[number] == model.step, "Wakes");
         make_Wakes(number);
-        model.woken[number]++;
     }
     see_wake(current, number);
     threads[number].woken++;
@@ -238,9 +238,8 @@ void proved_driver_await(team *own, uint32_t number)
     }
     threads[number].waited++;
     see_awake(number);
-    if (number != 0 && is_at_work() && !model.call->is_over) {
+    if (number != 0 && is_at_work() && !model.filling->is_over) {
         make_Enters(number);
-        model.entered[number]++;
     }
 }
 
@@ -335,7 +334,7 @@ void __wrap_free(void *at)
     const size_t len = give_back(at, are_workers ? WORKERS : BYTES);
     if (are_workers) {
         look_at_moves();
-        model.call = NULL;
+        model.filling = NULL;
     }
     must(are_workers || is_zero(at, len), "bytes are cleared before they are freed");
     __real_free(at);
@@ -500,8 +499,8 @@ static uint32_t make_call(uint8_t *tag)
     with.progress = asked.has_progress ? report_progress : NULL;
     with.arg = &asked;
     uint32_t code = proved_driver_begin_call(&call, &with, false);
-    model = (struct model){.call = &call};
-    begin_places(&call, model.written, asked.is_long);
+    model = (struct model){.filling = &call.filling};
+    begin_places(&call.filling, model.written, asked.is_long);
     call.job = job;
     if (!asked.is_verdict) {
         code = proved_driver_compute(&call, NULL, tag);

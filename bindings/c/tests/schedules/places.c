@@ -9,10 +9,11 @@ enum name { Waking, Taking, Working, Telling, Waiting, Woken, Counting, Left, En
 #define NUMBER(name, first, second) (((uint64_t)(name) << 32) + ((uint64_t)(first) << 16) + (uint64_t)(second))
 
 static struct {
-    const struct call *call;
+    const struct filling *filling;
     const uint64_t *written;
-    uint64_t members, step, place[MOST_THREADS], wakes[MOST_THREADS], entered[MOST_THREADS], state[MOST_THREADS];
-    bool is_long, is_over;
+    uint64_t members, place[MOST_THREADS], wakes[MOST_THREADS];
+    uint64_t step, woken[MOST_THREADS], entered[MOST_THREADS], state[MOST_THREADS], code[MOST_THREADS];
+    bool is_long, is_over, has_begun;
 } model;
 
 static void goes(uint64_t thread, uint64_t place)
@@ -49,10 +50,10 @@ static uint64_t second_of(uint32_t thread)
     return model.place[thread] & 0xffff;
 }
 
-void begin_places(const struct call *call, const uint64_t *written, bool is_long)
+void begin_places(const struct filling *filling, const uint64_t *written, bool is_long)
 {
     memset(&model, 0, sizeof model);
-    model.call = call;
+    model.filling = filling;
     model.written = written;
     model.is_long = is_long;
     model.place[0] = NUMBER(Waking, 1, 0);
@@ -110,12 +111,10 @@ static void see_access_to_end(uint32_t thread)
     leave(thread);
     if (thread == 0) {
         make_Stops();
-        model.is_over = true;
     } else if (model.is_over) {
         make_Exits(thread);
     } else {
         make_Enters(thread);
-        model.entered[thread]++;
     }
 }
 
@@ -125,15 +124,13 @@ static void see_access_to_part(uint32_t thread, uint64_t part)
     if (name_of(thread) == Waking) {
         make_Begins();
     }
-    const worker *const worker = &model.call->workers[part];
+    const worker *const worker = &model.filling->workers[part];
     const uint64_t step = thread == 0 ? model.step : model.entered[thread] - 1, taken = second_of(thread);
     must(worker->state == model.state[part], "Claims"); /* (a claim is one access, which changes the state) */
     if (name_of(thread) == Working) {
         make_Finishes(thread, part, taken, worker->code);
-        model.state[part] = 2 * step + 2;
     } else if (worker->state == 2 * step) {
         make_Claims(thread, part, taken);
-        model.state[part] = 2 * step + 1;
     } else {
         make_Leaves(thread, part, taken);
     }
@@ -141,11 +138,11 @@ static void see_access_to_part(uint32_t thread, uint64_t part)
 
 void see_access(uint32_t thread, const void *at)
 {
-    if (at == &model.call->is_over) {
+    if (at == &model.filling->is_over) {
         see_access_to_end(thread);
     }
-    for (uint32_t part = 0; part < model.call->tasks; part++) {
-        if (at == &model.call->workers[part].state) {
+    for (uint32_t part = 0; part < model.filling->tasks; part++) {
+        if (at == &model.filling->workers[part].state) {
             see_access_to_part(thread, part);
         }
     }
@@ -160,7 +157,6 @@ void see_advance(void)
 {
     leave(0);
     make_Advances();
-    model.step++;
 }
 
 void see_return(void)

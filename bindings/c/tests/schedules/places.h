@@ -8,7 +8,7 @@
 
 /* A call begins in the caller's thread alone, in long parts or not. `written` has, for each lane, one more than the
  * step that wrote it last. */
-void begin_places(const struct call *call, const uint64_t *written, bool is_long);
+void begin_places(const struct filling *filling, const uint64_t *written, bool is_long);
 
 /* So many threads wait beside the caller's. */
 void add_members(uint32_t members);

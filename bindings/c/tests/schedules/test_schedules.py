@@ -41,12 +41,12 @@ RUNS = {
                (2, 3, 1, 2): 60617, (2, 3, 2, 1): 44676, (3, 1, 1, 0): 176, (3, 1, 2, 0): 272, (3, 2, 1, 2): 73476,
                (3, 2, 2, 2): 408010, (3, 3, 1, 2): 774728, (3, 3, 2, 1): 257008, (4, 2, 1, 2): 82494},
     # Callers, calls of each, buffers, and switches without need.
-    'buffers': {(1, 2, 1, 0): 13, (2, 2, 1, 3): 6413, (2, 2, 2, 3): 47287, (3, 1, 1, 3): 17736, (3, 1, 2, 3): 143366,
-                (3, 2, 1, 2): 35974},
+    'buffers': {(1, 2, 1, 0): 65, (2, 2, 1, 3): 54487, (2, 2, 2, 3): 406111, (3, 1, 1, 3): 116656,
+                (3, 1, 2, 3): 956102, (3, 2, 1, 2): 432730},
 }
 # By each fault's name: a piece of a source, and what takes its place. @ separates the lines of a piece.
 FAULTS = {name: [piece.replace('@', '\n') for piece in pieces] for name, *pieces in rows(HERE / 'faults.txt')}
-assert len(FAULTS) == 61
+assert len(FAULTS) == 63
 # By model and move, a piece of the model, and one with which the model allows the move less often.
 NARROWER = {
     ('Team', 'Wakes'): ('s.woken j ≤ s.step', 's.woken j < s.step'),
@@ -66,13 +66,28 @@ NARROWER = {
     ('Threads', 'Tells'): ('s.place j ≡ Telling (suc n)', 's.place j ≡ Telling (suc (suc n))'),
     ('Threads', 'Waits'): ('s.place j ≡ Telling 0', 's.place j ≡ Telling 1'),
     ('Threads', 'Awakes'): ('(0 < s.wakes j)', '(1 < s.wakes j)'),
-    ('Threads', 'Enters'): ('s.team.is_over ≡ false', 's.team.is_over ≡ true'),
-    ('Threads', 'Exits'): ('s.team.is_over ≡ true', 's.team.is_over ≡ false'),
+    ('Threads', 'Enters'): ('Woken) × (s.team.is_over ≡ false', 'Woken) × (s.team.is_over ≡ true'),
+    ('Threads', 'Exits'): ('Woken) × (s.team.is_over ≡ true', 'Woken) × (s.team.is_over ≡ false'),
     ('Threads', 'Counts'): ('(n < w.tasks) × (0 < s.wakes 0)', '(suc n < w.tasks) × (0 < s.wakes 0)'),
     ('Threads', 'Advances'): ('s.team.code i ≡ 0)', 's.team.code i ≡ 1)'),
     ('Threads', 'Stops'): ('(s.place 0 ≡ Counting w.tasks) ⊎ (s.place 0 ≡ Left)', 's.place 0 ≡ Left'),
     ('Threads', 'Dismisses'): ('s.place 0 ≡ Ending k) × (k ≤', 's.place 0 ≡ Ending k) × (k <'),
     ('Threads', 'Returns'): ('s.place 0 ≡ Ending (suc members)', 's.place 0 ≡ Ending members'),
+}
+# By model and what it says of the start or of a move's effect: a piece of the model, another piece with which the model
+# says something else, and what some run then breaks.
+DIFFERENT = {
+    ('Team', 'IsStart'): ('pub step : s.step ≡ 0', 'pub step : s.step ≡ 1', 'IsStart'),
+    ('Team', 'wakes'): ('updated s.woken j (suc (s.woken j))', 'updated s.woken j (s.woken j)', 'Wakes'),
+    ('Team', 'enters'): ('updated s.entered j (suc (s.entered j))', 'updated s.entered j (s.entered j)', 'Claims'),
+    ('Team', 'claims'): ('updated s.state i (2 * n + 1)', 'updated s.state i (2 * n + 3)', 'after'),
+    ('Team', 'ends'): ('updated s.state i (2 * n + 2)', 'updated s.state i (2 * n + 4)', 'Claims'),
+    ('Team', 'code'): ('code = updated s.code i code', 'code = updated s.code i (suc code)', 'Advances'),
+    ('Team', 'advances'): ('step = suc s.step', 'step = s.step', 'after'),
+    ('Team', 'stops'): ('is_over = true', 'is_over = false', 'after'),
+    ('Threads', 'IsStart'): ('pub caller : s.place 0 ≡ Waking 1', 'pub caller : s.place 0 ≡ Waking 2', 'IsStart'),
+    ('Threads', 'team'): ('pub team : IsTeamStart w s.team', 'pub team : s.team.step ≡ 1', 'IsStart'),
+    ('Threads', 'claims'): ('s j) part; owner', 's j) (suc part); owner', 'Claims'),
 }
 
 
@@ -96,6 +111,8 @@ SOUND = [pytest.param(Exploration(source, (case,)), id=f'{source}-{case}')
 FAULTY = [pytest.param(name, with_fault(*pieces), id=name) for name, pieces in FAULTS.items()]
 NARROWED = [pytest.param(move, Exploration('driver', ((2, 2, 1, 2),), model, *pieces), id=f'{model}-{move}')
             for (model, move), pieces in NARROWER.items()]
+CHANGED = [pytest.param(broken, Exploration('driver', ((2, 2, 1, 2),), model, piece, other), id=f'{model}-{name}')
+           for (model, name), (piece, other, broken) in DIFFERENT.items()]
 
 
 def compiled(name, text, folder):
@@ -105,7 +122,7 @@ def compiled(name, text, folder):
         source, flags = folder / f'{name}.c', WATCHED
         source.write_text(text, encoding='utf-8')
     elif name in MODELS:
-        (folder / f'{name.lower()}_moves.h').write_text(moves.moves(text), encoding='utf-8')
+        (folder / f'{name.lower()}_moves.h').write_text(moves.moves(text, MODELS['Team']), encoding='utf-8')
     subprocess.run([*COMPILER, *flags, '-c', source, '-o', made], check=True)
     return made
 
@@ -173,6 +190,14 @@ def test_a_narrower_model_is_noticed(said, move, exploration):
     assert text.startswith(f'violated: {move};'), text
 
 
+@pytest.mark.parametrize(('broken', 'exploration'), CHANGED)
+def test_another_start_or_effect_is_noticed(said, broken, exploration):
+    """The start, and what a move changes, are read from the model too."""
+    assert MODELS[exploration.text].count(exploration.piece) == 1, 'it cannot be changed'
+    _, text = said(exploration)
+    assert text.startswith(f'violated: {broken};'), text
+
+
 def moves_of(model):
     """Returns the names of the moves of a model, by its definition."""
     data = re.search(r'^pub data Move .*\n((?: .*\n)+)', MODELS[model], re.MULTILINE)[1]
@@ -186,5 +211,5 @@ def test_the_driver_names_each_move_of_the_models():
 
 @pytest.mark.parametrize('model', MODELS)
 def test_each_move_is_made_by_a_function(model):
-    found = re.findall(r'void make_(\w+)\(', moves.moves(MODELS[model]))
+    found = re.findall(r'void make_(\w+)\(', moves.moves(MODELS[model], MODELS['Team']))
     assert found == moves_of(model) == [move for of, move in NARROWER if of == model]

@@ -12,6 +12,7 @@ from collections import Counter
 from pathlib import Path
 
 import cases as of
+import patience
 import plant_leak
 import pytest
 import rfc9106
@@ -22,7 +23,7 @@ from running import TOP, ahead
 from toolchain import is_current
 
 PREFIX, QEMU = 'aarch64-linux-gnu-', 'qemu-aarch64-static'
-SECONDS, LEAST = 600, 100_000  # LEAST: the fewest instructions of a call
+LEAST = 100_000  # instructions of a call
 # Sums, exclusive ors, products, shifts, rotations and shuffles, moves, comparisons and jumps. ARM guarantees
 # that their time is the same only with PSTATE.DIT, which is not set here, and not for addresses of loads and stores.
 X86 = re.compile(
@@ -150,9 +151,9 @@ def test_a_planted_branch_is_seen(arm64):
 def taken_by(function, line):
     """Returns how many instructions the program takes in a function for a line, and what it answers. (The environment
     is empty: pytest changes a variable meanwhile, which moves the stack, and a copy's instructions depend on that.)"""
-    ran = subprocess.run(
+    ran = patience.run(
         ['valgrind', '--tool=callgrind', '--callgrind-out-file=/dev/null', f'--toggle-collect={function}', PROGRAM],
-        input=f'{line}\n', capture_output=True, text=True, check=True, timeout=SECONDS, env={})
+        input=f'{line}\n', capture_output=True, text=True, check=True, env={})
     return int(re.search(r'Collected : (\d+)$', ran.stderr, re.M)[1]), ran.stdout.rstrip('\n')
 
 

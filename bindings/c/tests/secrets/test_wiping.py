@@ -21,6 +21,7 @@ from itertools import product
 from typing import NamedTuple
 
 import cases as of
+import patience
 import pytest
 import rfc9106
 from cases import CALLS
@@ -31,8 +32,8 @@ from running import rows as rows_of
 from toolchain import is_current
 
 BUILDS = machines()['x86_64'].proved
-# A run may take this long. search.c has the other numbers: bytes of a piece, most pieces, and most places.
-SECONDS, PIECE, PIECES, PLACES = 600, 16, 512, 1024
+# These are numbers of search.c: bytes of a piece, most pieces, and most places.
+PIECE, PIECES, PLACES = 16, 512, 1024
 # The calls, jumps and returns in machine code: the place, and the function that they lead to, without its types.
 BRANCH = re.compile(r'^ +([0-9a-f]+):\t(call|jmp|ret)(?:[^<\n]*<([^+\n]*?)(?:::<[^+\n]*)?>$)?', re.M)
 # These functions overwrite; the next compute over a memory; and the last end a call that has its own memory.
@@ -166,8 +167,7 @@ class Program:
             # With threads, the counts of the tag and the password differ between runs.
             sought = [piece for piece in one_run.sought if not one_run.has_threads or piece[0] not in OF_CALLER]
             with self.planned(dropped, stops, sought) as command:
-                done = subprocess.run([*command, *one_run.words], input=one_run.input, capture_output=True,
-                                      timeout=SECONDS)
+                done = patience.run([*command, *one_run.words], input=one_run.input, capture_output=True)
             said, found = done.stderr.decode(errors='replace'), Counter()
             is_well = done.returncode == one_run.status and f'sought {len(sought)}' in said.splitlines()
             assert is_well, f'{self.name} does not end well: {one_run.words}, {dropped}'
@@ -275,9 +275,8 @@ def runs_of_tests():
 
 
 def commands(hashing, salt, verifying):
-    """Yields what the programs of the command line do: each hashes, with the salt as bytes or in hexadecimal, and
-    verifies; in both versions, since they fill the memory differently. Calls in one thread free the blocks without
-    overwriting them, since that would take time."""
+    """Yields what the program of the command line does: it hashes and verifies, in both versions, since they fill the
+    memory differently. Calls in one thread free the blocks without overwriting them, since that would take time."""
     for mode, version in product(('seq', 'par', 'max2'), (16, 19)):
         words, vector = [hashing, *f'argon2id {version} 2 64 4 32 {mode}'.split(), salt], LONG._replace(version=version)
         freed = blocks_of(vector) if mode == 'seq' else []
@@ -289,8 +288,7 @@ def commands(hashing, salt, verifying):
 # Of each program in Rattle, what it is run for, and how many of its calls are over a caller's memory, without a
 # `release` in the same function.
 RATTLE = {'argon2_vectors': (rows, 0), 'argon2_tests': (runs_of_tests, 15),
-          'argon2_program': (lambda: commands('hash', OURS.salt.decode(), 'verify'), 0),
-          'argon2_tool': (lambda: commands('new', OURS.salt.hex(), 'check'), 0)}
+          'argon2_program': (lambda: commands('hash', OURS.salt.decode(), 'verify'), 0)}
 
 
 def program_of(crate):
