@@ -85,7 +85,7 @@ typedef enum Argon2_ErrorCodes {
     ARGON2_OUT_PTR_MISMATCH = -27, /* never returned */
     ARGON2_THREADS_TOO_FEW = -28,
     ARGON2_THREADS_TOO_MANY = -29,
-    ARGON2_MISSING_ARGS = -30, /* only by the command */
+    ARGON2_MISSING_ARGS = -30, /* only by libargon2's command */
     ARGON2_ENCODING_FAIL = -31,
     ARGON2_DECODING_FAIL = -32,
     ARGON2_THREAD_FAIL = -33,          /* never returned: other threads do the work of a denied one */

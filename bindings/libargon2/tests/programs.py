@@ -1,7 +1,7 @@
-"""Debian's own programs over two libraries with libargon2's interface, Debian's and ours: PHP, cryptsetup, OpenLDAP,
-argon2-cffi and the command argon2 answer the same. What is made over one is verified over the other too.
+"""Debian's own programs over two libraries with libargon2's interface, Debian's and ours: PHP, cryptsetup, OpenLDAP and
+argon2-cffi answer the same. What is made over one is verified over the other too.
 
-    LIBARGON2=FOLDER pytest programs.py     FOLDER has libargon2.so.1 and the command argon2
+    LIBARGON2=FOLDER pytest programs.py     FOLDER has libargon2.so.1
 """
 
 import contextlib
@@ -14,6 +14,7 @@ import subprocess
 import time
 from pathlib import Path
 
+import patience
 import pytest
 
 HERE, FOLDER = Path(__file__).resolve().parent, Path(os.environ['LIBARGON2']).resolve()
@@ -24,18 +25,7 @@ BOTH = 'debian', 'ours'
 LDAP_SETTINGS = [f'm={memory} t={passes} p={lanes}' for memory, passes, lanes in (
     (64, 1, 1), (1024, 3, 1), (4096, 2, 2), (4096, 2, 4), (7168, 5, 1), (65536, 1, 4))]
 LDAP_PASSWORD, INVALID_CREDENTIALS, NO_SERVER = 'correct horse', 49, 255
-COMMAND_SETTINGS = [list(words) for words in itertools.product(
-    (['-i'], ['-d'], ['-id'], []), (['-v', '10'], ['-v', '13']), (['-t', '1'], []),
-    (['-m', '3'], ['-k', '99'], ['-p', '4']), (['-l', '4'], ['-l', '65'], []), (['-e'], ['-r'], []))]
-COMMAND_WRONG = [
-    [], ['-h'], ['salt'], ['somesalt', '-h'], ['somesalt', '-m'], ['somesalt', '-m', '0'], ['somesalt', '-m', '33'],
-    ['somesalt', '-m', '3', '-k', '9'], ['somesalt', '-k', '7'], ['somesalt', '-k', '0'], ['somesalt', '-k', 'x'],
-    ['somesalt', '-t', '0'], ['somesalt', '-t', '4294967296'], ['somesalt', '-p', '0'], ['somesalt', '-p', '16777216'],
-    ['somesalt', '-p', '2', '-k', '15'], ['somesalt', '-l', '3'], ['somesalt', '-l', '0'],
-    ['somesalt', '-l', '-1x', '-e', '-r'], ['somesalt', '-v', '12'], ['somesalt', '-v'], ['somesalt', '-x'],
-    ['somesalt', '-i', '-d'], ['somesalt', '-id', '-id'], ['somesalt', '-e', '-r'], ['somesalt', '-e', '-h', '-x'],
-    ['somesalt', ''], ['somesalt', '-k', '99999999999999999999']]
-PHP, COMMAND = shutil.which('php'), shutil.which('argon2', path='/usr/bin')
+PHP = shutil.which('php')
 CRYPTSETUP, SLAPD = shutil.which('cryptsetup', path='/usr/sbin:/sbin'), '/usr/lib/ldap/argon2.so'
 # argon2-cffi, whose newer versions have their module in another package.
 CFFI = [name for name in ('_argon2_cffi_bindings', 'argon2') if importlib.util.find_spec(name)]
@@ -52,8 +42,8 @@ of_slapd = needs('slapd', os.path.exists(SLAPD) and shutil.which('ldapwhoami'))
 
 def run(name, *words):
     """Returns what a program prints over a library, and its status."""
-    done = subprocess.run([*map(str, words)], env={**os.environ, **LIBRARIES[name]}, stdin=subprocess.DEVNULL,
-                          stdout=subprocess.PIPE, stderr=subprocess.STDOUT, check=False, timeout=600)
+    done = patience.run([*map(str, words)], env={**os.environ, **LIBRARIES[name]}, stdin=subprocess.DEVNULL,
+                        stdout=subprocess.PIPE, stderr=subprocess.STDOUT)
     return done.stdout.decode(), done.returncode
 
 
@@ -152,14 +142,12 @@ def ldap_server(name, folder):
                               env={**os.environ, **LIBRARIES[name]}, stdout=subprocess.DEVNULL,
                               stderr=subprocess.DEVNULL)
     try:
-        end = time.monotonic() + 60
-        while server.poll() is None and time.monotonic() < end \
-                and run(name, 'ldapwhoami', '-x', '-H', address)[1] == NO_SERVER:
+        while server.poll() is None and run(name, 'ldapwhoami', '-x', '-H', address)[1] == NO_SERVER:
             time.sleep(0.05)
         yield address
     finally:
         server.terminate()
-        server.wait(timeout=60)
+        server.wait()
 
 
 @of_slapd
@@ -174,21 +162,3 @@ def test_openldap_takes_hashes_of_both_with_the_right_password_alone(tmp_path):
             statuses = [run(name, 'ldapwhoami', '-x', '-H', address, '-D', f'cn=root,dc={number}', '-w', password)[1]
                         for number, password in itertools.product(range(len(hashes)), (LDAP_PASSWORD, 'house'))]
         assert statuses == [0, INVALID_CREDENTIALS] * len(hashes), name
-
-
-# ---- the command
-
-def command_outcome(command, words, password):
-    """Returns the output of a command, with no time in it, its error and its status."""
-    done = subprocess.run(['argon2', *words], executable=command, input=password, capture_output=True, check=False,
-                          timeout=600)
-    return re.sub(rb'(?m)^\d+\.\d{3} seconds$', b'seconds', done.stdout), done.stderr, done.returncode
-
-
-@needs('argon2', COMMAND)
-def test_outputs_errors_and_statuses_of_the_command_are_the_same_to_the_byte():
-    cases = [(['somesalt', *itertools.chain(*settings)], b'password') for settings in COMMAND_SETTINGS]
-    cases += [(words, b'password') for words in COMMAND_WRONG]
-    cases += [(['somesalt', '-k', '8'], password) for password in (b'', b'x' * 127, b'x' * 128, b'x' * 500, b'a\0b\n')]
-    for case in cases:
-        assert command_outcome(COMMAND, *case) == command_outcome(FOLDER / 'argon2', *case), case
