@@ -114,7 +114,11 @@ fn sources_in_c(to: &Path) -> Result<PathBuf, String> {
 /// Compiles the library as C into an archive, and returns its folder.
 fn compiled_folder() -> Result<PathBuf, String> {
     if target("ENV") == "msvc" {
-        return Err(format!("there is no {ARCHIVE} for {}, and MSVC cannot compile the library as C", named("TARGET")));
+        return Err(format!(
+            "there is no {ARCHIVE} for {}, and MSVC cannot compile the library as C: name the folder of a library that \
+             it can link in PROVED_ARGON2_LIB_DIR",
+            named("TARGET")
+        ));
     }
     let folder = PathBuf::from(named("OUT_DIR"));
     let sources = sources_in_c(&folder)?;

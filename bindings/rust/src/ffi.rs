@@ -6,7 +6,7 @@
 mod calls;
 mod salt;
 
-pub use salt::new_salt;
+pub use salt::{new_salt, SALT_SIZE};
 
 use crate::{Config, Limits};
 use calls::*;
@@ -36,6 +36,9 @@ pub const TOO_COSTLY: u32 = 69;
 
 /// As many threads as the library allows for an encoded hash.
 const ALL_THREADS: u32 = u32::MAX;
+
+/// The most kept buffers of a handle.
+const MAX_BUFFERS: u32 = 8192;
 
 /// `proved_argon2_settings` of the header.
 #[repr(C)]
@@ -185,9 +188,9 @@ unsafe impl Send for Buffers {}
 unsafe impl Sync for Buffers {}
 
 impl Buffers {
-    /// A handle for at most this many buffers, each large enough for these settings.
+    /// A handle for at most this many buffers, or as many as the library allows, each large enough for these settings.
     pub fn new(settings: &Settings, most: usize) -> Buffers {
-        let (mut handle, most) = (null_mut(), u32::try_from(most).unwrap_or(u32::MAX));
+        let (mut handle, most) = (null_mut(), u32::try_from(most).map_or(MAX_BUFFERS, |most| most.min(MAX_BUFFERS)));
         // SAFETY: the library reads the settings, and writes to a variable of this function.
         let number = unsafe { proved_argon2_buffers_new(settings, most, &mut handle) };
         Buffers(if number == OK { handle } else { null_mut() })
@@ -282,21 +285,35 @@ pub fn verify_raw(pwd: &[u8], salt: &[u8], hash: &[u8], config: &Config<'_>, ext
     call!(proved_argon2_verify_raw_with, options, [pwd, salt, config.secret, config.ad], &settings, with, length)
 }
 
-/// Verifies a password against an encoded hash, if that is within the limits. If the password matches, and there are
-/// settings of new hashes, it compares these too.
+/// Verifies a password against an encoded hash, if that is within the limits.
 pub fn verify_encoded(
     text: &str,
     pwd: &[u8],
     secret: &[u8],
     ad: &[u8],
     limits: Option<&Limits>,
-    new: Option<&Settings>,
     extras: Extras<'_, '_>,
 ) -> u32 {
     let limits = limits.map_or(null(), |limits| limits as *const Limits);
-    let new_settings = new.map_or(null(), |new| new as *const Settings);
-    let options = Options { limits, new_settings, ..Options::by(ALL_THREADS, extras) };
+    let options = Options { limits, ..Options::by(ALL_THREADS, extras) };
     call!(proved_argon2_verify_encoded_with, options, [text, pwd, secret, ad])
+}
+
+/// Verifies a password with the secret of `config`. If the encoded hash is outdated, as it is if there is a new secret,
+/// a new one and then zeros are written to `out`, and the number is `NEEDS_REHASH`.
+pub fn renew(
+    text: &str,
+    pwd: &[u8],
+    config: &Config<'_>,
+    new_secret: &[u8],
+    extras: Extras<'_, '_>,
+    out: &mut [u8],
+) -> u32 {
+    let (limits, new_settings, new_salt_len) = (limits_for(config), Settings::of(config), SALT_SIZE);
+    let options =
+        Options { limits: &limits, new_settings: &new_settings, new_salt_len, ..Options::by(ALL_THREADS, extras) };
+    let (to, length) = (out.as_mut_ptr(), out.len());
+    call!(proved_argon2_password_renew, options, [text, pwd, config.secret, new_secret, config.ad], to, length)
 }
 
 /// Computes a hash of the password with these settings, and never matches.
@@ -323,6 +340,18 @@ pub fn tune(config: &Config<'_>, nanoseconds: u64) -> (u32, Tuning) {
 pub fn default_limits() -> Limits {
     // SAFETY: the call has no arguments.
     unsafe { proved_argon2_default_limits() }
+}
+
+/// The library's default limits, each raised to that of these settings.
+pub fn limits_for(config: &Config<'_>) -> Limits {
+    // SAFETY: the settings are read, and nothing is written.
+    unsafe { proved_argon2_limits_for(&Settings::of(config)) }
+}
+
+/// How many hashes with these settings fit into this many bytes.
+pub fn hashes_at_once(config: &Config<'_>, bytes: usize) -> u32 {
+    // SAFETY: the settings are read, and nothing is written.
+    unsafe { proved_argon2_hashes_at_once(&Settings::of(config), bytes as u64) }
 }
 
 /// What an encoded hash decodes to, if the number is `OK`.

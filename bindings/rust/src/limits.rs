@@ -34,22 +34,15 @@ impl Limits {
     /// ```
     #[must_use]
     pub fn at_least(config: &Config<'_>) -> Limits {
-        Limits::default().raised_to(config)
-    }
-
-    fn raised_to(self, config: &Config<'_>) -> Limits {
-        Limits {
-            lanes: self.lanes.max(config.lanes),
-            mem_cost: self.mem_cost.max(config.mem_cost),
-            time_cost: self.time_cost.max(config.time_cost),
-            work: self.work.max(u64::from(config.mem_cost) * u64::from(config.time_cost)),
-        }
+        ffi::limits_for(config)
     }
 
     /// Whether settings are within the limits.
     #[cfg(feature = "password-hash")]
     pub(crate) fn allow(self, config: &Config<'_>) -> bool {
-        self.raised_to(config) == self
+        let is_higher =
+            config.mem_cost > self.mem_cost || config.time_cost > self.time_cost || config.lanes > self.lanes;
+        !is_higher && u64::from(config.mem_cost) * u64::from(config.time_cost) <= self.work
     }
 }
 

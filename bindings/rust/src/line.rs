@@ -58,8 +58,11 @@ struct Shared {
 
 #[derive(Debug)]
 struct State {
-    /// The places that nobody holds.
+    /// All places, and those that nobody holds.
+    places: usize,
     free: usize,
+    /// How many callers were turned away.
+    refused: u64,
     next_ticket: u64,
     /// Those who wait, the first of whom gets the next place.
     queue: VecDeque<(u64, Waker)>,
@@ -110,8 +113,8 @@ impl Line {
     pub fn of(config: &Config<'_>, memory: usize) -> Line {
         let processors = thread::available_parallelism().map_or(1, usize::from);
         let lanes = usize::try_from(config.lanes.max(1)).unwrap_or(usize::MAX);
-        let hash = usize::try_from(ffi::memory_len(&Settings::of(config))).unwrap_or(usize::MAX);
-        let places = (processors / lanes).min(memory / hash.max(1)).max(1);
+        let fitting = usize::try_from(ffi::hashes_at_once(config, memory)).unwrap_or(usize::MAX);
+        let places = (processors / lanes).min(fitting).max(1);
         Line::with_buffers(places, 16 * places, config)
     }
 
@@ -137,11 +140,31 @@ impl Line {
         }
     }
 
+    /// How many callers hold a place now.
+    #[must_use]
+    pub fn running(&self) -> usize {
+        let state = self.0.lock();
+        state.places - state.free
+    }
+
+    /// How many callers wait now.
+    #[must_use]
+    pub fn queued(&self) -> usize {
+        self.0.lock().queue.len()
+    }
+
+    /// How many callers have got [`Busy`] so far.
+    #[must_use]
+    pub fn refused(&self) -> u64 {
+        self.0.lock().refused
+    }
+
     /// A line whose buffers are as large as hashes with these settings need.
     fn with_buffers(places: usize, waiting: usize, config: &Config<'_>) -> Line {
-        let free = places.max(1);
-        let buffers = Buffers::new(&Settings::of(config), free);
-        let state = Mutex::new(State { free, next_ticket: 0, queue: VecDeque::new(), is_watched: false });
+        let places = places.max(1);
+        let buffers = Buffers::new(&Settings::of(config), places);
+        let queue = VecDeque::new();
+        let state = Mutex::new(State { places, free: places, refused: 0, next_ticket: 0, queue, is_watched: false });
         Line(Arc::new(Shared { state, waiting, buffers }))
     }
 }
@@ -230,7 +253,10 @@ impl Future for Enter {
                 } // otherwise a caller who left has given its place to this one
             }
             None if state.free > 0 => state.free -= 1,
-            None if state.queue.len() >= line.waiting => return Poll::Ready(Err(Busy)),
+            None if state.queue.len() >= line.waiting => {
+                state.refused += 1;
+                return Poll::Ready(Err(Busy));
+            }
             None => {
                 let ticket = state.next_ticket;
                 state.queue.push_back((ticket, waker));

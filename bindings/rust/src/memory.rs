@@ -55,7 +55,7 @@ impl Memory {
     }
 
     /// Replaces a buffer that is too small for the settings. Returns whether it did.
-    fn grow(&mut self, settings: &Settings) -> bool {
+    pub(crate) fn grow(&mut self, settings: &Settings) -> bool {
         if self.size() as u64 >= ffi::memory_len(settings) {
             return false;
         }

@@ -88,9 +88,10 @@ impl<'a> Peppers<'a> {
         encoded: &str,
         pwd: &[u8],
     ) -> result::Result<(bool, Option<(&'a str, String)>), Unverified> {
-        let (old, new) = (self.with_key(self.key(key_id)?), self.with_key(self.newest().1));
-        let (is_match, update) = run.verify_and_renew(encoded, pwd, &old, &new)?;
-        Ok((is_match, update.map(|update| (self.newest().0, update))))
+        let (newest, of_hash) = (self.newest(), self.with_key(self.key(key_id)?));
+        let new_key: &[u8] = if key_id == Some(newest.0) { &[] } else { newest.1 };
+        let (is_match, update) = run.verify_and_renew(encoded, pwd, &of_hash, new_key)?;
+        Ok((is_match, update.map(|update| (newest.0, update))))
     }
 
     /// As [`verify_unknown`](crate::verify_unknown), with the settings of new hashes.
@@ -159,6 +160,14 @@ mod tests {
         assert!(is_match && key_id == "2026");
         assert_eq!(verify_encoded_ext(&new, b"password", b"new", &[]), Ok(true));
         assert_eq!(both.verify_and_update(&mut run, Some("2026"), &new, b"password"), Ok((true, None)));
+    }
+
+    #[test]
+    fn a_hash_with_an_old_id_is_renewed_even_if_both_ids_have_the_same_key() {
+        let same = Peppers::new(&[("2026", b"key"), ("2025", b"key")], small()).unwrap();
+        let (_, update) =
+            same.verify_and_update(&mut Run::new(), Some("2025"), &hash_with(b"key"), b"password").unwrap();
+        assert_eq!(update.unwrap().0, "2026");
     }
 
     #[test]

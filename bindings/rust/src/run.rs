@@ -73,9 +73,7 @@ impl<'a> Run<'a> {
     pub fn hash_encoded(&mut self, pwd: &[u8], salt: &[u8], config: &Config<'_>) -> Result<String> {
         let salt_len = u32::try_from(salt.len()).unwrap_or(u32::MAX); // (a longer salt is rejected)
         let size = ffi::encoded_len(config, salt_len) + 1;
-        let mut text = self.hash(pwd, salt, config, size, ffi::hash_encoded)?;
-        text.pop();
-        Ok(String::from_utf8(text).expect("an encoded hash is ASCII"))
+        Ok(text_of(self.hash(pwd, salt, config, size, ffi::hash_encoded)?))
     }
 
     /// As [`verify_raw`](crate::verify_raw).
@@ -86,7 +84,7 @@ impl<'a> Run<'a> {
 
     /// As [`verify_encoded_ext`](crate::verify_encoded_ext).
     pub fn verify_encoded(&mut self, encoded: &str, pwd: &[u8], secret: &[u8], ad: &[u8]) -> Result<bool> {
-        verdict(self.verify(encoded, pwd, secret, ad, None, None))
+        verdict(self.verify(encoded, pwd, secret, ad, None))
     }
 
     /// As [`verify_encoded_within`](crate::verify_encoded_within).
@@ -98,7 +96,7 @@ impl<'a> Run<'a> {
         ad: &[u8],
         limits: &Limits,
     ) -> result::Result<bool, Unverified> {
-        within_limits(self.verify(encoded, pwd, secret, ad, Some(limits), None))
+        within_limits(self.verify(encoded, pwd, secret, ad, Some(limits)))
     }
 
     /// As [`verify_password`](crate::verify_password).
@@ -127,19 +125,17 @@ impl<'a> Run<'a> {
         require_done(self.call(|| Settings::of(&config), |extras| ffi::hash_raw(pwd, salt, &config, extras, out)))
     }
 
-    /// Verifies with limits or without, and compares the settings with those of new hashes, if there are any. Returns
-    /// the library's number.
-    pub(crate) fn verify(
-        &mut self,
-        encoded: &str,
-        pwd: &[u8],
-        secret: &[u8],
-        ad: &[u8],
-        limits: Option<&Limits>,
-        new: Option<&Settings>,
-    ) -> u32 {
+    /// Verifies with limits or without. Returns the library's number.
+    fn verify(&mut self, encoded: &str, pwd: &[u8], secret: &[u8], ad: &[u8], limits: Option<&Limits>) -> u32 {
         let settings = || ffi::read(encoded).1.settings;
-        self.call(settings, |extras| ffi::verify_encoded(encoded, pwd, secret, ad, limits, new, extras))
+        self.call(settings, |extras| ffi::verify_encoded(encoded, pwd, secret, ad, limits, extras))
+    }
+
+    /// Lets the reusable buffer grow to what these settings need.
+    pub(crate) fn reserve(&mut self, settings: &Settings) {
+        if let Some(memory) = &mut self.memory {
+            memory.grow(settings);
+        }
     }
 
     /// Makes a call with the buffers and the callback, and returns its number. The settings are computed only if the
@@ -169,8 +165,14 @@ impl fmt::Debug for Run<'_> {
     }
 }
 
+/// An encoded hash, behind which the library wrote a zero.
+pub(crate) fn text_of(mut text: Vec<u8>) -> String {
+    text.pop();
+    String::from_utf8(text).expect("an encoded hash is ASCII")
+}
+
 /// This many zeros, if the system grants memory for them.
-fn zeros(length: u64) -> Result<Vec<u8>> {
+pub(crate) fn zeros(length: u64) -> Result<Vec<u8>> {
     let (length, mut zeros) = (usize::try_from(length).map_err(|_| Error::OutOfMemory)?, Vec::new());
     zeros.try_reserve_exact(length).map_err(|_| Error::OutOfMemory)?;
     zeros.resize(length, 0);

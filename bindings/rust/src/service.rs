@@ -1,16 +1,17 @@
-use crate::ffi::{self, Settings, NEEDS_REHASH, OK};
-use crate::run::{verdict, within_limits};
-use crate::{Config, Limits, Result, Run, Unverified};
+use crate::ffi::{self, Settings, NEEDS_REHASH, OK, SALT_SIZE};
+use crate::run::{text_of, verdict, within_limits, zeros};
+use crate::{Config, Result, Run, Unverified};
 use std::result;
 
 /// Verifies a password at a login, and hashes it anew if the stored hash is outdated.
 ///
 /// It verifies as [`verify_encoded_within`](crate::verify_encoded_within) does, with the secret and the associated data
-/// of `config`. If the password matches, and the stored hash was made with other settings than `config`, the second
-/// value is the new encoded hash, which the service stores in place of the old one.
+/// of `config`. If the password matches, and the stored hash was made with other settings than `config` or has a salt
+/// of another length than 16 bytes, the second value is the new encoded hash, which the service stores in place of the
+/// old one.
 ///
 /// The limits are the default ones, raised to the settings. If the new hash cannot be computed, the password matches
-/// all the same, and the second value is `None`.
+/// all the same, and the second value is `None`. The new hash too is computed by a thread for each lane.
 ///
 /// # Errors
 ///
@@ -70,7 +71,7 @@ impl Run<'_> {
         pwd: &[u8],
         config: &Config<'_>,
     ) -> result::Result<(bool, Option<String>), Unverified> {
-        self.verify_and_renew(encoded, pwd, config, config)
+        self.verify_and_renew(encoded, pwd, config, &[])
     }
 
     /// As [`verify_unknown`].
@@ -83,27 +84,30 @@ impl Run<'_> {
         verdict(number).map(|_| false)
     }
 
-    /// Verifies with the secret of one configuration, and hashes anew with another.
+    /// Verifies with the secret of `config`, and always hashes anew if there is a new secret. (Without memory for the
+    /// new hash, the library makes none. It makes both in the reusable buffer, which therefore first grows.)
     pub(crate) fn verify_and_renew(
         &mut self,
         encoded: &str,
         pwd: &[u8],
-        old: &Config<'_>,
-        new: &Config<'_>,
+        config: &Config<'_>,
+        new_secret: &[u8],
     ) -> result::Result<(bool, Option<String>), Unverified> {
-        let (limits, settings) = (Limits::at_least(new), Settings::of(new));
-        let number = self.verify(encoded, pwd, old.secret, old.ad, Some(&limits), Some(&settings));
-        let is_outdated = number == NEEDS_REHASH || old.secret != new.secret;
-        let is_match = within_limits(if number == NEEDS_REHASH { OK } else { number })?;
-        Ok((is_match, if is_match && is_outdated { self.hash_password_with(pwd, new).ok() } else { None }))
+        let mut text = zeros(ffi::encoded_len(config, SALT_SIZE as u32) + 1).unwrap_or_default();
+        self.reserve(&Settings::of(config));
+        let settings = || ffi::read(encoded).1.settings;
+        let number = self.call(settings, |extras| ffi::renew(encoded, pwd, config, new_secret, extras, &mut text));
+        let is_renewed = number == NEEDS_REHASH;
+        let is_match = within_limits(if is_renewed { OK } else { number })?;
+        Ok((is_match, is_renewed.then(|| text_of(text))))
     }
 }
 
 #[cfg(test)]
 mod tests {
     use super::{verify_and_update, verify_unknown};
-    use crate::{hash_password_with, needs_rehash, verify_encoded_ext};
-    use crate::{Config, Error, Run, Unverified};
+    use crate::{hash_encoded, hash_password_with, needs_rehash, read, verify_encoded_ext};
+    use crate::{Config, Error, Memory, Run, Unverified};
     use std::ops::ControlFlow;
 
     fn small() -> Config<'static> {
@@ -141,6 +145,22 @@ mod tests {
         assert_eq!(verify_and_update("x", b"password", &small()), Err(Unverified::Refused(Error::DecodingFail)));
         let costly = stored.replace("m=64", "m=4294967295");
         assert_eq!(verify_and_update(&costly, b"password", &small()), Err(Unverified::TooCostly));
+    }
+
+    #[test]
+    fn a_hash_with_a_salt_of_another_length_is_renewed() {
+        let stored = hash_encoded(b"password", b"somesalt", &small()).unwrap();
+        let (_, new) = verify_and_update(&stored, b"password", &small()).unwrap();
+        assert_eq!(read(&new.unwrap()).unwrap().salt_length, 16);
+    }
+
+    #[test]
+    fn a_reusable_buffer_grows_to_what_the_new_hash_needs() {
+        let (stored, larger) =
+            (hash_password_with(b"password", &small()).unwrap(), Config { mem_cost: 128, ..small() });
+        let mut memory = Memory::new();
+        let answer = Run::new().over(&mut memory).verify_and_update(&stored, b"password", &larger);
+        assert!(matches!(answer, Ok((true, Some(_)))) && memory.size() == 128 << 10);
     }
 
     #[test]

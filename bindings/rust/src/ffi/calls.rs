@@ -30,13 +30,23 @@ extern "C" {
         ad: *const u8, ad_len: usize,
         settings: *const Settings,
         out: *mut u8, out_len: usize) -> u32;
+    pub fn proved_argon2_hashes_at_once(settings: *const Settings, bytes: u64) -> u32;
     pub fn proved_argon2_library_version() -> u32;
+    pub fn proved_argon2_limits_for(settings: *const Settings) -> Limits;
     pub fn proved_argon2_memory_free(memory: *mut c_void, memory_len: usize);
     pub fn proved_argon2_memory_len(settings: *const Settings) -> u64;
     pub fn proved_argon2_memory_new(settings: *const Settings, memory: *mut *mut c_void, memory_len: *mut usize) -> u32;
     pub fn proved_argon2_message(number: u32) -> *const u8;
     pub fn proved_argon2_needs_rehash(
         text: *const u8, text_len: usize, settings: *const Settings) -> u32;
+    pub fn proved_argon2_password_renew(
+        options: *const Options,
+        text: *const u8, text_len: usize,
+        password: *const c_void, length: usize,
+        pepper: *const u8, pepper_len: usize,
+        new_pepper: *const u8, new_pepper_len: usize,
+        ad: *const u8, ad_len: usize,
+        new_text: *mut u8, new_text_len: usize) -> u32;
     pub fn proved_argon2_password_verify_unknown(
         options: *const Options, settings: *const Settings,
         password: *const c_void, length: usize, pepper: *const u8, pepper_len: usize) -> u32;

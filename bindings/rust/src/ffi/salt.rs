@@ -3,7 +3,7 @@
 use std::ffi::c_void;
 
 /// The length of a new salt in bytes (RFC 9106, 3.1).
-const SALT_SIZE: usize = 16;
+pub const SALT_SIZE: usize = 16;
 
 /// A new salt, or none if the system returns no random bytes.
 pub fn new_salt() -> Option<[u8; SALT_SIZE]> {

@@ -44,9 +44,10 @@ fn no_more_callers_compute_or_wait_than_the_line_allows() {
         }
         let begun = Instant::now();
         while busy.load(SeqCst) < 3 {
-            assert!(begun.elapsed() < Duration::from_secs(60), "more callers wait than may");
+            assert!(begun.elapsed() < Duration::from_secs(3600), "more callers wait than may");
             thread::yield_now();
         }
+        assert_eq!((line.running(), line.queued(), line.refused()), (2, 3, 3));
         drop(held);
     });
     assert_eq!(busy.into_inner(), 3);
@@ -55,6 +56,7 @@ fn no_more_callers_compute_or_wait_than_the_line_allows() {
     assert_eq!(state_of(&line), (0, 0));
     drop(places);
     assert_eq!(state_of(&line), (2, 0));
+    assert_eq!((line.running(), line.queued(), line.refused()), (0, 0, 3));
 }
 
 #[test]
@@ -100,7 +102,7 @@ fn ends(work: impl FnOnce() + Send + 'static) -> bool {
         work();
         done.send(()).unwrap();
     });
-    end.recv_timeout(Duration::from_secs(60)).is_ok()
+    end.recv_timeout(Duration::from_secs(3600)).is_ok()
 }
 
 #[test]
@@ -132,6 +134,8 @@ fn the_number_of_places_fits_the_settings_the_processors_and_the_memory() {
     assert_eq!(places(&small(1024), 1 << 40), processors);
     assert_eq!(places(&small(1024), 2 << 20), processors.min(2));
     assert_eq!(places(&small(1024), 0), 1);
+    // (a hash of 19 MiB takes up to 20 MiB)
+    assert_eq!((places(&small(19456), 40 << 20), places(&small(19456), (40 << 20) - 1)), (processors.min(2), 1));
 }
 
 #[test]
@@ -146,7 +150,7 @@ fn a_line_that_is_gone_is_freed_with_its_buffers() {
     let begun = Instant::now();
     while shared.upgrade().is_some() {
         // The thread that frees idle buffers holds the line only while it looks at it.
-        assert!(begun.elapsed() < Duration::from_secs(60), "the line is kept");
+        assert!(begun.elapsed() < Duration::from_secs(3600), "the line is kept");
         thread::yield_now();
     }
 }

