@@ -1,3 +1,5 @@
+//go:build cgo
+
 // Package argon2 hashes and verifies passwords with Argon2 (RFC 9106). Proved code computes the hashes, except the
 // compression on AVX-512 and ARM64, which is checked by a tool. The C driver and this package are tested. The package
 // contains the library: a program needs only cgo and a C compiler.
@@ -36,8 +38,7 @@ func HashRaw(password, salt []byte, settings Settings) ([]byte, error) {
 // Verify returns whether a password matches an encoded hash that is within [DefaultLimits]. An error means that nothing
 // was compared: let nobody in.
 func Verify(encoded string, password []byte) (matches bool, err error) {
-	matches, _, err = run{limits: DefaultLimits()}.verify(encoded, password, nil)
-	return matches, err
+	return run{limits: DefaultLimits()}.verify(encoded, password)
 }
 
 // VerifyAndUpdate verifies a password as [Verify] does, with the secret and the data of the settings, and within their
@@ -116,31 +117,32 @@ func (r run) hashRaw(password, salt []byte) ([]byte, error) {
 	return tag, nil
 }
 
-// verify returns whether the password matches, and whether an encoded hash that it matches was made with other settings
-// than those of today, if there are any.
-func (r run) verify(encoded string, password []byte, today *Settings) (matches, isDue bool, err error) {
-	switch err := r.compare(encoded, password, today); err {
+func (r run) verify(encoded string, password []byte) (matches bool, err error) {
+	switch err = r.compare(encoded, password); err {
 	case mismatch:
-		return false, false, nil
-	case needsNew:
-		return true, true, nil
+		return false, nil
+	case needsNew: // (the password matches)
+		return true, nil
 	default:
-		return err == nil, false, err
+		return err == nil, err
 	}
 }
 
 // verifyAndUpdate verifies with an old pepper, if the stored hash has one. It computes a new hash with the settings if
 // the stored hash has an old pepper or other settings.
 func (r run) verifyAndUpdate(encoded string, password []byte, old *Pepper) (matches bool, updated string, err error) {
-	verifier := r
+	secret, newSecret := r.settings.Secret, []byte(nil)
 	if old != nil {
-		verifier.settings.Secret = old.Key
+		secret, newSecret = old.Key, secret
 	}
-	matches, isDue, err := verifier.verify(encoded, password, &r.settings)
-	if matches && (isDue || old != nil) {
-		updated, _ = r.hash(password)
+	switch updated, err = r.renew(encoded, password, secret, newSecret); err {
+	case mismatch:
+		return false, "", nil
+	case needsNew:
+		return true, updated, nil
+	default:
+		return err == nil, "", err
 	}
-	return matches, updated, err
 }
 
 func (r run) verifyUnknown(password []byte) (matches bool, err error) {

@@ -183,6 +183,18 @@ func TestNeedsRehashComparesEverySetting(t *testing.T) {
 	}
 }
 
+func TestTheVersionLeftOutIsTheCurrentOne(t *testing.T) {
+	s := small(func(s *Settings) { s.Version = 0 })
+	encoded := must(Hash(password, s))
+	matches, updated, err := VerifyAndUpdate(encoded, password, s)
+	if !strings.HasPrefix(encoded, "$argon2id$v=19$") || !matches || updated != "" || err != nil {
+		t.Error(encoded, matches, updated, err)
+	}
+	if must(NeedsRehash(encoded, s)) || !must(NeedsRehash(encoded, small(func(s *Settings) { s.Version = Version10 }))) {
+		t.Error(encoded)
+	}
+}
+
 func TestLimitsAreTheDefaultOnesOrThoseOfTheSettings(t *testing.T) {
 	expected := DefaultLimits()
 	if found := LimitsFor(OWASP2()); found != expected {

@@ -49,6 +49,14 @@ static uint32_t go_argon2_verify(
 		&options, (const char *)text.at, text.length, PASS(pwd), PASS(secret), PASS(ad));
 }
 
+static uint32_t go_argon2_renew(proved_argon2_options options, go_bytes text, go_bytes pwd, go_bytes pepper,
+	go_bytes new_pepper, go_bytes ad, go_bytes new_text)
+{
+	options.progress = options.arg == NULL ? NULL : must_stop;
+	return proved_argon2_password_renew(&options, (const char *)text.at, text.length, PASS(pwd), PASS(pepper),
+		PASS(new_pepper), PASS(ad), (char *)new_text.at, new_text.length);
+}
+
 static uint32_t go_argon2_verify_unknown(
 	proved_argon2_options options, proved_argon2_settings settings, go_bytes pwd, go_bytes secret)
 {
@@ -84,8 +92,8 @@ const (
 // idle is how long the library keeps a buffer that no call uses.
 const idle = 10 * time.Second
 
-// mostBuffers limits how many buffers are kept: each call looks at all of them.
-const mostBuffers = 1024
+// mostBuffers is how many buffers the library keeps at most.
+const mostBuffers = C.PROVED_ARGON2_MAX_BUFFERS
 
 // check returns the error of a hash with these settings, if any. Call it before you allocate a salt or a tag: both may
 // be huge.
@@ -110,20 +118,32 @@ func (r run) compute(password, salt []byte, isEncoded bool, out []byte) error {
 	})
 }
 
-// compare compares a password with an encoded hash. It returns nil if the password matches, or needsNew if it matches
-// and the hash was made with other settings than those of today, if there are any.
-func (r run) compare(encoded string, password []byte, today *Settings) error {
-	s := r.settings
-	limits := C.proved_argon2_limits{mem_cost: C.uint32_t(r.limits.Memory), time_cost: C.uint32_t(r.limits.Time),
-		lanes: C.uint32_t(r.limits.Lanes), work: C.uint64_t(r.limits.Work)}
+// compare compares a password with an encoded hash. It returns nil if the password matches, or mismatch.
+func (r run) compare(encoded string, password []byte) error {
+	s, limits := r.settings, r.limits.c()
 	return r.call(func(options C.proved_argon2_options) C.uint32_t {
 		options.limits = &limits
-		if today != nil {
-			settings := today.c()
-			options.new_settings, options.new_salt_len = &settings, C.size_t(today.SaltLength)
-		}
 		return C.go_argon2_verify(options, pass([]byte(encoded)), pass(password), pass(s.Secret), pass(s.Data))
 	})
+}
+
+// renew does the same for a hash that was made with this secret. If the password matches, and there is a new secret or
+// the hash has other settings than the run, it returns a new encoded hash, and needsNew.
+func (r run) renew(encoded string, password, secret, newSecret []byte) (updated string, err error) {
+	s, settings, limits := r.settings, r.settings.c(), r.limits.c()
+	var out []byte // (without room for a hash, the library makes none)
+	if r.check(password, uint64(s.SaltLength)) == nil {
+		out = make([]byte, s.encodedLength()+1)
+	}
+	err = r.call(func(options C.proved_argon2_options) C.uint32_t {
+		options.limits, options.new_settings, options.new_salt_len = &limits, &settings, C.size_t(s.SaltLength)
+		return C.go_argon2_renew(options, pass([]byte(encoded)), pass(password), pass(secret), pass(newSecret),
+			pass(s.Data), pass(out))
+	})
+	if err == needsNew {
+		updated = string(out[:len(out)-1])
+	}
+	return updated, err
 }
 
 // compareUnknown takes as long as compare. It returns mismatch, or the error that prevented a hash.
@@ -203,6 +223,9 @@ func (b *buffers) freeIdle() {
 }
 
 func (s Settings) c() C.proved_argon2_settings {
+	if s.Version == 0 {
+		s.Version = Version
+	}
 	return C.proved_argon2_settings{
 		variant: C.uint32_t(s.Variant), version: C.uint32_t(s.Version), mem_cost: C.uint32_t(s.Memory),
 		time_cost: C.uint32_t(s.Time), lanes: C.uint32_t(s.Lanes), hash_length: C.uint32_t(s.HashLength),
@@ -227,9 +250,20 @@ func NeedsRehash(encoded string, settings Settings) (bool, error) {
 }
 
 // DefaultLimits returns the limits of the library, which docs/USE.md lists.
-func DefaultLimits() Limits {
-	limits := C.proved_argon2_default_limits()
+func DefaultLimits() Limits { return limitsOf(C.proved_argon2_default_limits()) }
+
+func limitsFor(s Settings) Limits {
+	settings := s.c()
+	return limitsOf(C.proved_argon2_limits_for(&settings))
+}
+
+func limitsOf(limits C.proved_argon2_limits) Limits {
 	return Limits{uint32(limits.mem_cost), uint32(limits.time_cost), uint32(limits.lanes), uint64(limits.work)}
+}
+
+func (l Limits) c() C.proved_argon2_limits {
+	return C.proved_argon2_limits{mem_cost: C.uint32_t(l.Memory), time_cost: C.uint32_t(l.Time),
+		lanes: C.uint32_t(l.Lanes), work: C.uint64_t(l.Work)}
 }
 
 // Error returns the message of the error.

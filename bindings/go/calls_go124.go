@@ -8,6 +8,8 @@ package argon2
 // #cgo nocallback go_argon2_hash
 // #cgo noescape go_argon2_verify
 // #cgo nocallback go_argon2_verify
+// #cgo noescape go_argon2_renew
+// #cgo nocallback go_argon2_renew
 // #cgo noescape go_argon2_verify_unknown
 // #cgo nocallback go_argon2_verify_unknown
 // #cgo noescape go_argon2_tune

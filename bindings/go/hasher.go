@@ -1,3 +1,5 @@
+//go:build cgo
+
 package argon2
 
 import (
@@ -23,7 +25,7 @@ import (
 // # Buffers
 //
 // A running hash uses a buffer of the Hasher, which is cleared after the hash and kept for the next one. There are at
-// most as many buffers as places, or 1,024. A buffer that is not used for ten seconds is freed. If a hash needs more
+// most as many buffers as places, or 8,192. A buffer that is not used for ten seconds is freed. If a hash needs more
 // memory than the settings of [NewHasher] do, or the system denies a buffer, the call allocates its own memory, and
 // frees it.
 type Hasher struct {
@@ -39,8 +41,13 @@ func NewHasher(settings Settings, concurrency, waiting int) (*Hasher, error) {
 	if err := (run{settings: settings}).check(nil, uint64(settings.SaltLength)); err != nil {
 		return nil, err
 	}
-	concurrency = highest(concurrency, 1)
-	callers := concurrency + highest(waiting, 0)
+	if concurrency < 1 {
+		concurrency = 1
+	}
+	callers := concurrency
+	if waiting > 0 {
+		callers += waiting
+	}
 	if callers < 0 { // the sum overflowed
 		callers = math.MaxInt
 	}
@@ -49,7 +56,8 @@ func NewHasher(settings Settings, concurrency, waiting int) (*Hasher, error) {
 		return nil, err
 	}
 	return &Hasher{
-		&queue{make(chan struct{}, callers), make(chan struct{}, concurrency), buffers}, &settings, LimitsFor(settings),
+		&queue{callers: make(chan struct{}, callers), places: make(chan struct{}, concurrency), buffers: buffers},
+		&settings, LimitsFor(settings),
 	}, nil
 }
 
@@ -69,10 +77,7 @@ func (h *Hasher) Hash(ctx context.Context, password []byte) (encoded string, err
 
 // Verify is [Verify] with the secret, the data and the limits of the Hasher.
 func (h *Hasher) Verify(ctx context.Context, encoded string, password []byte) (matches bool, err error) {
-	return enqueue(ctx, h, func(r run) (bool, error) {
-		matches, _, err := r.verify(encoded, password, nil)
-		return matches, err
-	})
+	return enqueue(ctx, h, func(r run) (bool, error) { return r.verify(encoded, password) })
 }
 
 // VerifyAndUpdate is [VerifyAndUpdate] with the settings and the limits of the Hasher. If the context ends while the
@@ -94,6 +99,25 @@ func (h *Hasher) verifyAndUpdate(ctx context.Context, encoded string, password [
 // VerifyUnknown is [VerifyUnknown] with the settings of the Hasher.
 func (h *Hasher) VerifyUnknown(ctx context.Context, password []byte) (matches bool, err error) {
 	return enqueue(ctx, h, func(r run) (bool, error) { return r.verifyUnknown(password) })
+}
+
+// Stats are the numbers of a Hasher's queue, for example for a service's metrics.
+type Stats struct {
+	Running int    // the callers that compute now
+	Queued  int    // the callers that wait now
+	Refused uint64 // the callers that have got [ErrBusy] since NewHasher
+}
+
+// Stats returns the numbers of the queue. While callers come and leave, the numbers may be from different moments.
+func (h *Hasher) Stats() Stats {
+	if h == nil || h.queue == nil {
+		return Stats{}
+	}
+	stats := Stats{Running: len(h.queue.places), Refused: h.queue.refused.Load()}
+	if callers := len(h.queue.callers); callers > stats.Running {
+		stats.Queued = callers - stats.Running
+	}
+	return stats
 }
 
 // Format prints the settings without the secret, for a Hasher and for a pointer to one.
@@ -146,6 +170,7 @@ type queue struct {
 	callers chan struct{} // has an item for each caller that computes or waits
 	places  chan struct{} // has an item for each caller that computes
 	buffers *buffers
+	refused atomic.Uint64
 }
 
 func (q *queue) enter(ctx context.Context) error {
@@ -155,6 +180,7 @@ func (q *queue) enter(ctx context.Context) error {
 	select {
 	case q.callers <- struct{}{}:
 	default:
+		q.refused.Add(1)
 		return ErrBusy
 	}
 	select {

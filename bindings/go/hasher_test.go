@@ -12,7 +12,7 @@ import (
 
 // waitFor waits until something is true.
 func waitFor(t *testing.T, what string, isTrue func() bool) {
-	for end := time.Now().Add(30 * time.Second); !isTrue(); time.Sleep(time.Millisecond) {
+	for end := time.Now().Add(time.Hour); !isTrue(); time.Sleep(time.Millisecond) {
 		if time.Now().After(end) {
 			t.Fatal("not in 30 seconds: " + what)
 		}
@@ -112,12 +112,15 @@ func TestCallersComputeOrWaitOrLeaveOrAreTurnedAway(t *testing.T) {
 	if _, busy := h.Verify(ctx, encoded, password); err != context.Canceled || busy != ErrBusy {
 		t.Error(err, busy)
 	}
+	if found := h.With(small()).Stats(); found != (Stats{Running: 2, Queued: 1, Refused: 1}) {
+		t.Error(found)
+	}
 	if err, next := cancel(), <-waiting; err != context.Canceled || next != nil {
 		t.Error(err, next)
 	}
 	cancelOther()
 	panicOf(func() { enqueue(ctx, h, func(run) (bool, error) { panic("in the middle") }) })
-	if len(h.queue.places) != 0 || len(h.queue.callers) != 0 {
+	if len(h.queue.places) != 0 || len(h.queue.callers) != 0 || h.Stats() != (Stats{Refused: 1}) {
 		t.Error("a place is not free")
 	}
 }

@@ -1,3 +1,5 @@
+//go:build cgo
+
 package argon2
 
 import "fmt"
@@ -23,7 +25,7 @@ const (
 // RFC9106LowMem: to follow it, set Lanes.
 type Settings struct {
 	Variant    Variant
-	Version    uint32
+	Version    uint32 // 0 means Version
 	Memory     uint32 // in KiB
 	Time       uint32 // the passes over the memory
 	Lanes      uint32 // the degree of parallelism, which a hash depends on
@@ -77,14 +79,5 @@ type Limits struct {
 
 // LimitsFor returns the default limits, each raised to that of the settings if that is higher.
 func LimitsFor(settings Settings) Limits {
-	limits, work := DefaultLimits(), uint64(settings.Memory)*uint64(settings.Time)
-	return Limits{highest(limits.Memory, settings.Memory), highest(limits.Time, settings.Time),
-		highest(limits.Lanes, settings.Lanes), highest(limits.Work, work)}
-}
-
-func highest[N int | uint32 | uint64](one, other N) N {
-	if one < other {
-		return other
-	}
-	return one
+	return limitsFor(settings)
 }

@@ -58,14 +58,14 @@ func main() {
     fmt.Println(password[0])
 }
 """ % NAME
-pytestmark = [needs("go"), pytest.mark.timeout(2400)]
+pytestmark = needs("go")
 
 
 @pytest.fixture(scope="session")
 def env(tmp_path_factory):
     """Returns the variables with which Go builds here, without a network."""
     folder = tmp_path_factory.mktemp("go")
-    return {"GOCACHE": folder / "cache", "GOPATH": folder / "path", "GOFLAGS": "-mod=mod", "GOPROXY": "off",
+    return {"GOCACHE": folder / "cache", "GOPATH": folder / "path", "GOFLAGS": "-mod=mod -timeout=1h", "GOPROXY": "off",
             "GOSUMDB": "off", "GOTOOLCHAIN": "local", "CGO_ENABLED": 1}
 
 
@@ -134,8 +134,9 @@ def test_the_tests_of_the_module_pass(module, env, drawn, words, more):
 
 def test_without_cgo_the_build_says_why(module, env):
     why = 'cannot use "argon2 needs cgo and a C compiler: set CGO_ENABLED=1 and CC"'
-    refuses(1 if "go1.2" in run("go", "version") else 2, why, "go", "build", "./...", cwd=module,
-            env={**env, "CGO_ENABLED": 0})
+    said = refuses(1 if "go1.2" in run("go", "version") else 2, why, "go", "build", "./...", cwd=module,
+                   env={**env, "CGO_ENABLED": 0})
+    assert len(said.splitlines()) == 2 and said.startswith("# ")
 
 
 # ---- each number of the library, over the stubs of codes.c
@@ -233,16 +234,30 @@ def test_no_copy_of_a_password_or_a_pepper_is_left(module, env, tmp_path):
     assert (process.returncode, found) == (0, 1)
 
 
+# Go calls init before main.
+CALLING = """func init() {
+    hasher, err := argon2.NewHasher(argon2.OWASP5(), 1, 0)
+    if err == nil {
+        err = withPeppers(context.Background(), hasher, []byte("new key"), []byte("old key"))
+    }
+    if err != nil {
+        panic(err)
+    }
+}
+"""
+
+
 def test_the_code_of_the_page_runs(module, env, tmp_path):
-    """The first piece is a program; the others are functions."""
+    """The first piece is a program; the others are functions, of which one prints."""
     first, *others = re.findall(r"^```go\n(.*?)^```", PAGE, re.M | re.S)
     folder = program(tmp_path / "page", module)
     (folder / "main.go").write_text(first)
     (folder / "functions.go").write_text(
-        f'package main\n\nimport (\n    "context"\n\n    "{NAME}"\n)\n\n' + "\n".join(others))
+        f'package main\n\nimport (\n    "context"\n    "fmt"\n\n    "{NAME}"\n)\n\n' + "\n".join([*others, CALLING]))
     run("go", "vet", ".", cwd=folder, env=env)
     said = run("go", "run", ".", cwd=folder, env=env).splitlines()
-    assert said == re.findall("Println.*// (.*)", first) == ["true <nil>", "false <nil>"]
+    printed = ["true 2026 <nil>", "true <nil>", "false <nil>"]
+    assert said == re.findall("Println.*// (.*)", "".join([*others, first])) == printed
 
 
 def test_the_page_names_each_exported_name():
@@ -302,7 +317,8 @@ def test_the_tests_pass_on_debian_13(module, drawn, tmp_path):
     shutil.copy(drawn["RANDOM_HASHES"], system / "random.txt")
     (program(system / "program", "/bindings/go") / "main.go").write_text(MAIN)
     script = f"""export GOPROXY=off GOTOOLCHAIN=local RANDOM_HASHES=/random.txt; cd /bindings/go
-        [[ ! $(gofmt -l .) ]]; go vet ./...; go test -count=1 -race ./...; GOEXPERIMENT=cgocheck2 go test -count=1 .
+        [[ ! $(gofmt -l .) ]]; go vet ./...; export GOFLAGS=-timeout=1h
+        go test -count=1 -race ./...; GOEXPERIMENT=cgocheck2 go test -count=1 .
         cd /program; go mod vendor; mv /bindings /other; [[ $(go run -mod=vendor .) == {TAG} ]]"""
     run(*in_system(system, *SHELL_THERE, script))
 
