@@ -13,10 +13,10 @@
         JNIEnv *env, __attribute__((unused)) jclass class, __VA_ARGS__)
 
 /* The order of Native.Call. */
-enum { HASH, HASH_RAW, VERIFY, VERIFY_UNKNOWN, NEEDS_REHASH };
+enum { HASH, HASH_RAW, VERIFY, VERIFY_UNKNOWN, NEEDS_REHASH, RENEW };
 
-/* The arrays of a call, and their copies. */
-enum { PASSWORD, SALT, PEPPER, DATA, TEXT, ARRAYS };
+/* The arrays of a call, and their copies. A hash that is renewed is passed no salt. */
+enum { PASSWORD, SALT, NEW_PEPPER = SALT, PEPPER, DATA, TEXT, OUTPUT, ARRAYS };
 typedef struct bytes {
     uint8_t *at;
     size_t len;
@@ -112,11 +112,14 @@ static uint32_t compute(jint call, const proved_argon2_options *options, const b
             options, (char *)of[TEXT].at, of[TEXT].len, BYTES(PASSWORD), BYTES(PEPPER), BYTES(DATA));
     if (call == VERIFY_UNKNOWN)
         return proved_argon2_password_verify_unknown(options, options->new_settings, BYTES(PASSWORD), BYTES(PEPPER));
+    if (call == RENEW)
+        return proved_argon2_password_renew(options, (char *)of[TEXT].at, of[TEXT].len, BYTES(PASSWORD), BYTES(PEPPER),
+            BYTES(NEW_PEPPER), BYTES(DATA), (char *)of[OUTPUT].at, of[OUTPUT].len);
     if (call == HASH_RAW)
         return proved_argon2_hash_raw_with(
-            options, BYTES(PASSWORD), BYTES(SALT), BYTES(PEPPER), BYTES(DATA), options->new_settings, BYTES(TEXT));
+            options, BYTES(PASSWORD), BYTES(SALT), BYTES(PEPPER), BYTES(DATA), options->new_settings, BYTES(OUTPUT));
     return proved_argon2_hash_encoded_with(options, BYTES(PASSWORD), BYTES(SALT), BYTES(PEPPER), BYTES(DATA),
-        options->new_settings, (char *)of[TEXT].at, of[TEXT].len);
+        options->new_settings, (char *)of[OUTPUT].at, of[OUTPUT].len);
 }
 
 CALL(jint, check, jintArray settings)
@@ -131,8 +134,22 @@ CALL(jlong, encodedLength, jintArray settings)
     return (jlong)proved_argon2_encoded_len(&of.settings, of.salt_length);
 }
 
+CALL(void, limitsFor, jintArray settings, jlongArray limits)
+{
+    const proved_argon2_stored of = settings_of(env, settings);
+    const proved_argon2_limits most = proved_argon2_limits_for(&of.settings);
+    const jlong numbers[] = {most.mem_cost, most.time_cost, most.lanes, (jlong)most.work};
+    (*env)->SetLongArrayRegion(env, limits, 0, 4, numbers);
+}
+
+CALL(jlong, hashesAtOnce, jintArray settings, jlong bytes)
+{
+    const proved_argon2_stored of = settings_of(env, settings);
+    return proved_argon2_hashes_at_once(&of.settings, (uint64_t)bytes);
+}
+
 CALL(jint, make, jint call, jintArray settings, jlongArray limits, jlong buffers, jobject is_stopped,
-    jbyteArray password, jbyteArray salt, jbyteArray pepper, jbyteArray data, jbyteArray text)
+    jbyteArray password, jbyteArray salt, jbyteArray pepper, jbyteArray data, jbyteArray text, jbyteArray output)
 {
     const proved_argon2_stored new_settings = settings_of(env, settings);
     const proved_argon2_limits within = limits_of(env, limits);
@@ -146,11 +163,11 @@ CALL(jint, make, jint call, jintArray settings, jlongArray limits, jlong buffers
     bytes of[ARRAYS] = {{NULL, 0}};
     uint32_t code = PROVED_ARGON2_OUT_OF_MEMORY;
     if (!ask_caller(&self, &options)) return PROVED_ARGON2_STOPPED;
-    if (copy(env, (jbyteArray[]){password, salt, pepper, data, text}, of)) {
+    if (copy(env, (jbyteArray[]){password, salt, pepper, data, text, output}, of)) {
         code = compute(call, &options, of);
     }
-    if (code == PROVED_ARGON2_OK && (call == HASH || call == HASH_RAW)) {
-        (*env)->SetByteArrayRegion(env, text, 0, (jsize)of[TEXT].len, (const jbyte *)of[TEXT].at);
+    if (code == PROVED_ARGON2_OK || code == PROVED_ARGON2_NEEDS_REHASH) {
+        (*env)->SetByteArrayRegion(env, output, 0, (jsize)of[OUTPUT].len, (const jbyte *)of[OUTPUT].at);
     }
     discard(of);
     return (jint)code;
@@ -172,8 +189,9 @@ CALL(jint, tune, jintArray settings, jlong nanoseconds, jobject is_stopped, jlon
 CALL(jlong, newBuffers, jintArray settings, jint most)
 {
     const proved_argon2_stored of = settings_of(env, settings);
+    const uint32_t kept = most < PROVED_ARGON2_MAX_BUFFERS ? (uint32_t)most : PROVED_ARGON2_MAX_BUFFERS;
     proved_argon2_buffers *buffers = NULL;
-    const uint32_t code = proved_argon2_buffers_new(&of.settings, (uint32_t)most, &buffers);
+    const uint32_t code = proved_argon2_buffers_new(&of.settings, kept, &buffers);
     return code == PROVED_ARGON2_OK ? (jlong)(intptr_t)buffers : 0;
 }
 

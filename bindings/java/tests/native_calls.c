@@ -29,7 +29,7 @@ struct array {
 };
 
 typedef jint make_call(JNIEnv *, jclass, jint, jintArray, jlongArray, jlong, jobject, jbyteArray, jbyteArray,
-    jbyteArray, jbyteArray, jbyteArray);
+    jbyteArray, jbyteArray, jbyteArray, jbyteArray);
 
 static jsize length_of(JNIEnv *env, jarray array)
 {
@@ -46,6 +46,11 @@ static void get_bytes(JNIEnv *env, jbyteArray array, jsize first, jsize count, j
     if (env != NULL) get((struct array *)array, first, count, to);
 }
 
+static void set_bytes(JNIEnv *env, jbyteArray array, jsize first, jsize count, const jbyte *from)
+{
+    if (env != NULL && count > 0) memcpy(((struct array *)array)->bytes + first, from, (size_t)count);
+}
+
 static void get_ints(JNIEnv *env, jintArray array, jsize first, jsize count, jint *to)
 {
     if (env != NULL) get((struct array *)array, first, count, to);
@@ -59,6 +64,7 @@ static void get_longs(JNIEnv *env, jlongArray array, jsize first, jsize count, j
 static const struct JNINativeInterface_ calls = {
     .GetArrayLength = length_of,
     .GetByteArrayRegion = get_bytes,
+    .SetByteArrayRegion = set_bytes,
     .GetIntArrayRegion = get_ints,
     .GetLongArrayRegion = get_longs,
 };
@@ -81,8 +87,8 @@ static bool is_right(make_call *make)
     const jlongArray most = array_of(&of[1], sizeof(jlong), limits, 4);
     const jbyteArray password = array_of(&of[2], 1, "password", 8), wrong = array_of(&of[3], 1, "Password", 8);
     const jbyteArray none = array_of(&of[4], 1, "", 0), text = array_of(&of[5], 1, ENCODED, sizeof ENCODED - 1);
-    return make(&of_thread, class, VERIFY, settings, most, 0, NULL, password, none, none, none, text) == OK
-        && make(&of_thread, class, VERIFY, settings, most, 0, NULL, wrong, none, none, none, text) == MISMATCH;
+    return make(&of_thread, class, VERIFY, settings, most, 0, NULL, password, none, none, none, text, none) == OK
+        && make(&of_thread, class, VERIFY, settings, most, 0, NULL, wrong, none, none, none, text, none) == MISMATCH;
 }
 
 int main(int argc, char **argv)

@@ -15,7 +15,7 @@ LIBRARIES = [f"/usr/share/java/{name}.jar" for name in ("junit-platform-console-
 LINT = "-Xlint:all,-path", "-Werror"
 NEWER = "trixie"  # Debian's release with Java 21 and 25
 DATED = {"SOURCE_DATE_EPOCH": 1700000000}
-pytestmark = [needs("javac"), pytest.mark.timeout(2400)]
+pytestmark = needs("javac")
 # Native calls of CodesTest, beside codes.c.
 CODES_OF_JAVA = """#include <jni.h>
 #include "proved_argon2.h"
@@ -109,7 +109,7 @@ def passes(count, *words, **named):
 
 
 USUAL = "--exclude-tag", "codes", "--exclude-tag", "denied"
-COUNT = 62  # of its own tests, of which one asks for 2 TiB
+COUNT = 63  # of its own tests, of which one asks for 2 TiB
 
 
 def test_its_own_tests_pass_in_java_17(jar, classes, drawn):
@@ -149,7 +149,8 @@ def test_its_own_tests_pass_with_a_library_compiled_from_the_jar_of_sources(clas
     """The jar has no library for this system, and the error names the missing file. The page's commands, which name
     macOS's headers, make it."""
     jar, program = pack(tmp_path / "proved-argon2-x.jar"), write_program(tmp_path)
-    library, = re.findall(r"the jar has no (\S+)\. Compile it", start("java", "-cp", jar, program).stderr)
+    # Java prints the error, and the same text again for its cause.
+    library, = {*re.findall(r"the jar has no (\S+)\. Compile it", start("java", "-cp", jar, program).stderr)}
     commands, = re.findall(r"^    (unzip \S*-sources.jar (?:.*\n)+?)\n", (TOP / "docs/INSTALL.md").read_text(), re.M)
     for old, new in ((r"proved-argon2\S*-sources", f"{jar.stem}-sources"), ("include/darwin", "include/linux"),
                      ("-o .*", f"-o {library}")):
@@ -199,6 +200,7 @@ def test_the_code_of_the_page_runs_as_a_module(jar, tmp_path):
     (tmp_path / "first/First.java").write_text(
         "package first;\nimport java.util.Optional;\nimport proved.argon2.*;\nclass First {\n"
         f"static {code_of('JAVA.md', 1)}public static void main(String[] none) {{\n{first_lines('JAVA.md', 4)}"
+        f"{code_of('JAVA.md', 2)}matches &= isRight && kept.equals(user) && kept.keyId().equals(\"2026\");\n"
         "HashQueue queue = new HashQueue(1, 0);\n"
         "matches &= logIn(queue, hasher, stored, password).matches();\n"
         "System.out.println(matches && !logIn(queue, hasher, null, password).matches()); }}")
@@ -214,7 +216,7 @@ def test_an_encoder_for_spring_is_one_line(jar, tmp_path):
 
 def test_the_logins_of_a_service(jar, tmp_path):
     run("javac", *LINT, "-cp", jar, "-d", tmp_path, TOP / "docs/examples/LogIn.java", JAVA / "tests/Logins.java")
-    serves("java", "-cp", f"{jar}:{tmp_path}", "Logins", env={"PEPPER": "pepper"}, timeout=300)
+    serves("java", "-cp", f"{jar}:{tmp_path}", "Logins", env={"PEPPER": "pepper"})
 
 
 @pytest.mark.parametrize("compiler, machine, name, words", [
@@ -260,6 +262,22 @@ def test_the_library_can_be_named_and_a_missing_one_is_an_error(jar, tmp_path):
         assert done.returncode == 1 and "UnsatisfiedLinkError" in done.stderr, done.stderr
     done = start("java", "-Dos.name=Mac OS X", "-Dos.arch=aarch64", "-cp", jar, program)
     assert done.returncode == 1 and "the jar has no proved/argon2/native/mac-aarch64.so" in done.stderr, done.stderr
+
+
+def test_each_attempt_without_a_library_says_what_to_do(jar, tmp_path):
+    """Java itself would only say at the second one that a class could not be initialized."""
+    program = tmp_path / "Program.java"
+    program.write_text("""class Program { public static void main(String[] none) {
+        for (int attempt = 0; attempt < 2; attempt++) {
+            try {
+                new proved.argon2.PasswordHasher();
+            } catch (Throwable error) {
+                System.out.println(error);
+            }
+        }
+    } }""")
+    first, second = run("java", "-Djava.io.tmpdir=/nowhere", "-cp", jar, program).splitlines()
+    assert first == second and first.startswith("java.lang.UnsatisfiedLinkError") and "-Djava.io.tmpdir=FOLDER" in first
 
 
 # Runs a command with a folder on which nothing can be written, or from which nothing can be loaded.

@@ -11,6 +11,7 @@ import java.util.concurrent.ExecutionException;
 import java.util.concurrent.LinkedBlockingQueue;
 import java.util.concurrent.Semaphore;
 import java.util.concurrent.TimeUnit;
+import java.util.concurrent.atomic.LongAdder;
 import java.util.function.BooleanSupplier;
 import java.util.function.Supplier;
 import proved.argon2.Argon2Exception.Reason;
@@ -29,8 +30,6 @@ import proved.argon2.Argon2Exception.Reason;
 public final class HashQueue implements AutoCloseable {
     private static final Duration IDLE = Duration.ofSeconds(10);
     private static final int WAITING_FOR_EACH = 16;
-    /** The most kept buffers: each hash looks at all of them. */
-    private static final int MOST_BUFFERS = 1024;
 
     private final LinkedBlockingQueue<Task<?>> waiting = new LinkedBlockingQueue<>();
     /** The calls that compute or wait. */
@@ -39,6 +38,7 @@ public final class HashQueue implements AutoCloseable {
     private final Semaphore places;
     /** A permit for each thread that may still be started. */
     private final Semaphore startable;
+    private final LongAdder refused = new LongAdder();
     private final int concurrency;
     private final Duration idle;
     /** The library's kept buffers for hashes with these settings. */
@@ -75,9 +75,9 @@ public final class HashQueue implements AutoCloseable {
      * @param bytes the memory that all hashes together may use
      */
     public static HashQueue of(Settings settings, long bytes) {
-        int used = settings.memory() - settings.memory() % (4 * settings.lanes()); // in KiB, as the library rounds it
         long processors = Runtime.getRuntime().availableProcessors() / settings.lanes();
-        int concurrency = (int) Math.max(1, Math.min(processors, bytes / (1024L * used)));
+        long fitting = Native.hashesAtOnce(settings.numbers(), Math.max(0, bytes));
+        int concurrency = (int) Math.max(1, Math.min(processors, fitting));
         return new HashQueue(concurrency, WAITING_FOR_EACH * concurrency);
     }
 
@@ -94,6 +94,7 @@ public final class HashQueue implements AutoCloseable {
      */
     public <T> CompletableFuture<T> submit(Supplier<T> call) {
         if (isClosed || !hasPlace()) {
+            refused.increment();
             return CompletableFuture.failedFuture(new Argon2Exception(Reason.BUSY));
         }
         Task<T> task = new Task<>(call);
@@ -141,6 +142,21 @@ public final class HashQueue implements AutoCloseable {
         }
     }
 
+    /** {@return how many calls compute now} */
+    public int running() {
+        return Math.max(0, tasks.size() - queued());
+    }
+
+    /** {@return how many calls wait now} */
+    public int queued() {
+        return isClosed ? 0 : waiting.size();
+    }
+
+    /** {@return how many calls were rejected with {@link Reason#BUSY} so far} */
+    public long refused() {
+        return refused.sum();
+    }
+
     /** Cancels all calls, and rejects new ones. The threads free their memory and end. */
     @Override
     public void close() {
@@ -161,8 +177,7 @@ public final class HashQueue implements AutoCloseable {
     }
 
     private long buffers(Settings settings) {
-        int most = Math.min(concurrency, MOST_BUFFERS);
-        return buffers.computeIfAbsent(settings, own -> Native.newBuffers(own.numbers(), most));
+        return buffers.computeIfAbsent(settings, own -> Native.newBuffers(own.numbers(), concurrency));
     }
 
     /** Frees the buffers of a closed queue, once, when it has no thread left that could use them. */
@@ -201,8 +216,14 @@ public final class HashQueue implements AutoCloseable {
         } catch (OutOfMemoryError denied) {
             startable.release();
             if (startable.availablePermits() == concurrency) {
-                waiting.forEach(task -> task.completeExceptionally(new Argon2Exception(Reason.BUSY)));
+                waiting.forEach(this::refuse);
             }
+        }
+    }
+
+    private void refuse(Task<?> task) {
+        if (task.completeExceptionally(new Argon2Exception(Reason.BUSY))) {
+            refused.increment();
         }
     }
 

@@ -22,9 +22,9 @@ public record Limits(int memory, int passes, int lanes, long work) {
      * @param settings the settings whose hashes have to be within the limits
      */
     public static Limits atLeast(Settings settings) {
-        return new Limits(Math.max(DEFAULT.memory, settings.memory()), Math.max(DEFAULT.passes, settings.passes()),
-            Math.max(DEFAULT.lanes, settings.lanes()),
-            Math.max(DEFAULT.work, (long) settings.memory() * settings.passes()));
+        long[] most = new long[4];
+        Native.limitsFor(settings.numbers(), most);
+        return new Limits((int) most[0], (int) most[1], (int) most[2], most[3]);
     }
 
     /** The library's numbers are unsigned: the highest {@code int} or {@code long} becomes their highest, no limit. */

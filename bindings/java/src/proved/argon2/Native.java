@@ -18,7 +18,7 @@ final class Native {
     static final long NONE = 0;
 
     /** The calls of {@link #make}, in the order of proved_argon2_java.c. */
-    enum Call { HASH, HASH_RAW, VERIFY, VERIFY_UNKNOWN, NEEDS_REHASH }
+    enum Call { HASH, HASH_RAW, VERIFY, VERIFY_UNKNOWN, NEEDS_REHASH, RENEW }
 
     /**
      * The property that names the library's file, where the one in the jar cannot be used. Java loads one file for one
@@ -35,16 +35,34 @@ final class Native {
         + "noexec, name another one with -Djava.io.tmpdir=FOLDER, or unpack the library from the jar, and name it with "
         + "-D" + PROPERTY + "=FILE";
 
-    static {
+    /** Why the library could not be loaded, or null. */
+    private static final UnsatisfiedLinkError FAILURE = load();
+
+    private Native() {}
+
+    private static UnsatisfiedLinkError load() {
         String named = System.getProperty(PROPERTY);
-        if (named == null) {
-            loadOwn();
-        } else {
-            System.load(Path.of(named).toAbsolutePath().toString());
+        try {
+            if (named == null) {
+                loadOwn();
+            } else {
+                System.load(Path.of(named).toAbsolutePath().toString());
+            }
+            return null;
+        } catch (UnsatisfiedLinkError error) {
+            return error;
         }
     }
 
-    private Native() {}
+    /**
+     * Throws why the library could not be loaded. Each attempt says so: if the initializer threw it, Java would throw a
+     * NoClassDefFoundError without a reason from the second one on.
+     */
+    static void requireLoaded() {
+        if (FAILURE != null) {
+            throw (Error) new UnsatisfiedLinkError(FAILURE.getMessage()).initCause(FAILURE);
+        }
+    }
 
     /** The error of a hash with these {@link Settings#numbers}, or 0. */
     static native int check(int[] settings);
@@ -53,13 +71,21 @@ final class Native {
     static native long encodedLength(int[] settings);
 
     /**
-     * Makes a call. {@code HASH} writes the encoded hash, and a zero, to {@code text}. {@code HASH_RAW} writes the raw
-     * hash. Other calls read {@code text}. {@code VERIFY} returns {@link #NEEDS_REHASH} for a match with other settings
-     * or another length of the salt. {@code buffers} is the handle of kept buffers, or {@link #NONE}. {@code isStopped}
-     * is called before each hash and after each slice. If it is null, nothing stops the call.
+     * Makes a call. {@code HASH} writes the encoded hash, and a zero, to {@code output}. {@code HASH_RAW} writes the
+     * raw hash. Other calls read {@code text}. {@code VERIFY} returns {@link #NEEDS_REHASH} for a match with other
+     * settings or another length of the salt. {@code RENEW} does so if it has written a new encoded hash, and a zero.
+     * It makes the salt itself: {@code salt} is the new pepper, if there is one. {@code buffers} is the handle of kept
+     * buffers, or {@link #NONE}. {@code isStopped} is called before each hash and after each slice. If it is null,
+     * nothing stops the call.
      */
     static native int make(int call, int[] settings, long[] limits, long buffers, BooleanSupplier isStopped,
-        byte[] password, byte[] salt, byte[] pepper, byte[] data, byte[] text);
+        byte[] password, byte[] salt, byte[] pepper, byte[] data, byte[] text, byte[] output);
+
+    /** Writes the default limits, each raised to that of the settings. */
+    static native void limitsFor(int[] settings, long[] limits);
+
+    /** How many hashes fit into this many bytes. */
+    static native long hashesAtOnce(int[] settings, long bytes);
 
     /** Searches for settings, and writes the memory, the passes and the nanoseconds of a hash to {@code found}. */
     static native int tune(int[] settings, long nanoseconds, BooleanSupplier isStopped, long[] found);

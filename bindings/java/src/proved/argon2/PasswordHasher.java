@@ -134,7 +134,7 @@ public class PasswordHasher {
      */
     public final byte[] hashRaw(byte[] password, byte[] salt) {
         byte[] tag = output(settings.hashLength());
-        call(Native.Call.HASH_RAW, password, Objects.requireNonNull(salt), tag);
+        call(Native.Call.HASH_RAW, password, Objects.requireNonNull(salt), NONE, tag);
         return tag;
     }
 
@@ -155,7 +155,9 @@ public class PasswordHasher {
      * @param password the password
      */
     public final boolean verify(String stored, byte[] password) {
-        return verdict(stored, password) != Native.MISMATCH;
+        byte[] text = stored.getBytes(StandardCharsets.UTF_8);
+        return call(Native.Call.VERIFY, password, NONE, text, NONE, Native.MISMATCH, Native.NEEDS_REHASH)
+            != Native.MISMATCH;
     }
 
     /**
@@ -193,7 +195,7 @@ public class PasswordHasher {
      * @param password the password
      */
     public final boolean verifyUnknown(byte[] password) {
-        call(Native.Call.VERIFY_UNKNOWN, password, NONE, NONE, Native.MISMATCH);
+        call(Native.Call.VERIFY_UNKNOWN, password, NONE, NONE, NONE, Native.MISMATCH);
         return false;
     }
 
@@ -204,7 +206,7 @@ public class PasswordHasher {
      */
     public final boolean needsRehash(String stored) {
         byte[] text = stored.getBytes(StandardCharsets.UTF_8);
-        return call(Native.Call.NEEDS_REHASH, NONE, NONE, text, Native.NEEDS_REHASH) == Native.NEEDS_REHASH;
+        return call(Native.Call.NEEDS_REHASH, NONE, NONE, text, NONE, Native.NEEDS_REHASH) == Native.NEEDS_REHASH;
     }
 
     /**
@@ -242,7 +244,12 @@ public class PasswordHasher {
 
     final String hash(byte[] password, byte[] salt) {
         byte[] text = output(Native.encodedLength(settings.numbers()) + 1);
-        call(Native.Call.HASH, password, salt, text);
+        call(Native.Call.HASH, password, salt, NONE, text);
+        return textOf(text);
+    }
+
+    /** An encoded hash, behind which the library wrote a zero. */
+    private static String textOf(byte[] text) {
         return new String(text, 0, text.length - 1, StandardCharsets.US_ASCII);
     }
 
@@ -251,17 +258,18 @@ public class PasswordHasher {
         return new byte[(int) length];
     }
 
-    /** Verifies a password, and hashes it with the newest hasher if the hash's pepper or settings differ. */
+    /**
+     * Verifies a password, and hashes it with the pepper of the newest hasher if the hash's pepper or settings differ.
+     * Without room for a new hash, the library makes none: the user can log in with the old one.
+     */
     final Verdict<String> verifyAndUpdate(String stored, byte[] password, PasswordHasher newest) {
-        int verdict = verdict(stored, password);
-        if (verdict == Native.MISMATCH || verdict == Native.OK && newest == this) {
-            return new Verdict<>(verdict == Native.OK, Optional.empty());
-        }
-        try {
-            return new Verdict<>(true, Optional.of(newest.hash(password)));
-        } catch (Argon2Exception error) {
-            return new Verdict<>(true, Optional.empty()); // the user can log in with the old hash
-        }
+        long length = Native.encodedLength(settings.numbers()) + 1;
+        byte[] update = length < LONGEST_ARRAY ? new byte[(int) length] : NONE;
+        byte[] newPepper = newest == this ? NONE : newest.pepper;
+        int number = call(Native.Call.RENEW, password, newPepper, stored.getBytes(StandardCharsets.UTF_8), update,
+            Native.MISMATCH, Native.NEEDS_REHASH);
+        boolean isRenewed = number == Native.NEEDS_REHASH;
+        return new Verdict<>(number != Native.MISMATCH, isRenewed ? Optional.of(textOf(update)) : Optional.empty());
     }
 
     /** Makes a call with the UTF-8 of a password, and clears it. */
@@ -280,16 +288,11 @@ public class PasswordHasher {
         }
     }
 
-    /** Verifies a password, and returns 0, MISMATCH or NEEDS_REHASH. */
-    private int verdict(String stored, byte[] password) {
-        byte[] text = stored.getBytes(StandardCharsets.UTF_8);
-        return call(Native.Call.VERIFY, password, NONE, text, Native.MISMATCH, Native.NEEDS_REHASH);
-    }
-
     /** Makes a call. A number other than 0 and these verdicts is an error. */
-    private int call(Native.Call call, byte[] password, byte[] salt, byte[] text, Integer... verdicts) {
+    private int call(
+            Native.Call call, byte[] password, byte[] salt, byte[] text, byte[] output, Integer... verdicts) {
         int number = Native.make(call.ordinal(), settings.numbers(), limits.numbers(), HashQueue.buffersFor(settings),
-            HashQueue.stop(), Objects.requireNonNull(password), salt, pepper, associatedData, text);
+            HashQueue.stop(), Objects.requireNonNull(password), salt, pepper, associatedData, text, output);
         if (number != Native.OK && !List.of(verdicts).contains(number)) {
             throw Argon2Exception.of(number);
         }

@@ -29,6 +29,7 @@ public record Settings(
     public Settings {
         int[] numbers = {variant.ordinal(), version.number, Math.max(0, memory), Math.max(0, passes),
             Math.max(0, lanes), Math.max(0, hashLength), Math.max(0, saltLength)};
+        Native.requireLoaded(); // (each call has settings)
         int error = Native.check(numbers);
         if (error != Native.OK) {
             throw Argon2Exception.of(error);

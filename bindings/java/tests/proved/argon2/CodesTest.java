@@ -63,6 +63,11 @@ class CodesTest {
         compare(values, number -> set(0, number, 0), call);
     }
 
+    private String renewed() {
+        Verdict<String> verdict = hasher.verifyAndUpdate(STORED, PASSWORD);
+        return verdict.matches() + verdict.update().orElse("").replace("x".repeat(12), "text");
+    }
+
     private static String numbersOf(Tuning found) {
         return "[" + found.settings().memory() + "," + found.settings().passes() + "]";
     }
@@ -78,6 +83,7 @@ class CodesTest {
             () -> new String(hasher.hashRaw(PASSWORD, bytes("somesalt")), US_ASCII).replace("x".repeat(5), "tag"));
         compare(table("hash_encoded"), () -> hasher.hash(PASSWORD, bytes("somesalt")).replace("x".repeat(12), "text"));
         compare(table("verify_encoded_within") + " 68=true", () -> hasher.verify(STORED, PASSWORD));
+        compare("0=true 64=false 68=truetext", () -> renewed());
         compare("0=false 64=false", () -> hasher.verifyUnknown(PASSWORD));
         compare("0=[64,3] 69=none", () -> Tuning.tune(Duration.ofSeconds(1), new Settings(
             Variant.ARGON2ID, Version.VERSION_13, 64, 3, 4, 5, 8)).map(CodesTest::numbersOf).orElse("none"));
@@ -93,6 +99,12 @@ class CodesTest {
         assertTrue(seen().endsWith("|" + System.getProperty("passed.hash_raw")), seen());
         hasher.verify(STORED, PASSWORD);
         assertTrue(seen().endsWith("|" + System.getProperty("passed.verify_encoded_within")), seen());
+        hasher.verifyAndUpdate(STORED, PASSWORD);
+        assertTrue(seen().endsWith("|renew $argon2id$x word key  data 10 2 19 64 3 4 5 6"), seen());
+        hasher.verifyAndUpdate(STORED, PASSWORD, hasher.withPepper(bytes("new")));
+        assertTrue(seen().endsWith("|renew $argon2id$x word key new data 10 2 19 64 3 4 5 6"), seen());
+        assertEquals(new Limits(64, 8, 9, 10), Limits.atLeast(new Settings(
+            Variant.ARGON2ID, Version.VERSION_13, 64, 3, 4, 5, 6)));
         hasher.verifyUnknown(PASSWORD);
         assertTrue(seen().endsWith("|unknown word key 2 19 64 3 4 5"), seen());
     }

@@ -15,7 +15,7 @@ import org.junit.jupiter.api.*;
 
 /** While a file {@code threads} exists, threads are denied. */
 @Tag("denied")
-@Timeout(60)
+@Timeout(3600)
 class DeniedTest {
     private static final Path FOLDER = Path.of(System.getenv().getOrDefault("DENIED", "."));
     private final PasswordHasher hasher = new PasswordHasher(SMALL.withMemory(32 * 1024).withLanes(4));

@@ -97,7 +97,8 @@ class HashesTest {
         generator.init(new Argon2Parameters.Builder(Argon2Parameters.ARGON2_id).withSalt(salt).withMemoryAsKB(memory)
             .withIterations(passes).withParallelism(lanes).build());
         generator.generateBytes(bytes("pässword€😀"), tag);
-        String stored = "$argon2id$v=19$m=%d,t=%d,p=%d$%s$%s".formatted(memory, passes, lanes, base64(salt), base64(tag));
+        String stored = "$argon2id$v=19$m=%d,t=%d,p=%d$%s$%s"
+            .formatted(memory, passes, lanes, base64(salt), base64(tag));
         PasswordHasher spring = new PasswordHasher();
         assertTrue(spring.matches("pässword€😀", stored));
         assertTrue(spring.verify(stored, "pässword€😀".toCharArray()));
