@@ -9,7 +9,7 @@ import time
 from pathlib import Path
 
 # A forked child that has not ended after this many seconds hangs.
-PATIENCE = 60
+PATIENCE = 3600
 
 
 def resident():

@@ -78,7 +78,9 @@ def test_the_processors_are_limited_by_each_quota_above_the_process(cgroups, own
 
 @pytest.mark.parametrize("kib, lanes, limits, expected", [
     (65536, 1, {}, 8), (65536, 4, {}, 2), (65536, 9, {}, 1), (1 << 18, 1, {}, 4), (1 << 30, 1, {}, 1),
-    (65536, 1, {"memory.max": GIB}, 4), (65536, 1, {"memory.max": 1}, 1), (64, 1, {"cpu.max": "300000 100000"}, 3)])
+    (65536, 1, {"memory.max": GIB}, 4), (65536, 1, {"memory.max": 1}, 1), (64, 1, {"cpu.max": "300000 100000"}, 3),
+    # A hash of 19 MiB takes up to 20 MiB.
+    (19456, 1, {"memory.max": 160 << 20}, 2), (19456, 1, {"memory.max": (160 << 20) - 4}, 1)])
 def test_the_default_concurrency_follows_processors_lanes_and_memory(cgroups, kib, lanes, limits, expected):
     """With peppers it is that of the settings that are computed."""
     cgroups("0::/\n", limits)

@@ -83,6 +83,12 @@ def test_the_number_of_kept_buffers_is_that_of_the_processors_or_of_the_calls():
         assert (hasher._pool._memory.memory_cost, hasher._pool._memory.most) == (64, 2)
 
 
+def test_no_more_buffers_are_kept_than_the_library_allows():
+    assert AsyncPasswordHasher(settings_of(64), concurrency=100000)._pool._memory.most == 8192
+    with pytest.raises(HashingError, match="^Out of memory$"):
+        Memory(64, 8193)
+
+
 def test_the_threads_of_an_async_hasher_keep_memory_until_it_has_been_idle_for_ten_seconds():
     kept, freed = map(int, run(KEEPS).split())
     assert kept > (LARGE << 10) - SLACK and freed < SLACK

@@ -92,6 +92,12 @@ def test_the_page_shows_the_arguments_and_defaults_of_each_call(name, call):
     assert arguments(names["documented"]) == arguments(call)
 
 
+def test_the_package_exports_all_exceptions():
+    names = [name for name, value in vars(proved_argon2.exceptions).items() if isinstance(value, type)]
+    assert len(names) == 10 and {*names} <= {*proved_argon2.__all__}
+    assert all(getattr(proved_argon2, name) is getattr(proved_argon2.exceptions, name) for name in names)
+
+
 @pytest.mark.parametrize("error, above", [
     (VerifyMismatchError, VerificationError), (VerificationError, Argon2Error), (HashingError, Argon2Error),
     (InvalidHashError, ValueError), (BusyError, Argon2Error), (TooCostlyError, VerificationError),
@@ -196,7 +202,7 @@ def test_the_deprecated_calls_hash_and_verify_and_warn_in_the_words_of_argon2_cf
 
 
 def run_module(*words):
-    return subprocess.run([sys.executable, "-m", "proved_argon2", *words], capture_output=True, text=True, timeout=60)
+    return subprocess.run([sys.executable, "-m", "proved_argon2", *words], capture_output=True, text=True)
 
 
 def test_python_m_measures_a_hash():

@@ -72,7 +72,6 @@ def with_library(installed, site):
     return {"PYTHONPATH": site, "PROVED_ARGON2_LIBRARY": installed / "lib" / SONAME, "PYTHONDONTWRITEBYTECODE": 1}
 
 
-@pytest.mark.timeout(2400)
 def test_the_package_s_own_tests_pass(with_library, drawn, tmp_path):
     """The tests with pwdlib are skipped if Debian's package cannot be fetched."""
     fetch("fetch_package", "python3-pwdlib", tmp_path)
@@ -159,7 +158,6 @@ def test_twine_accepts_the_wheel_and_the_archive_of_sources(packed):
 
 
 @by_pip
-@pytest.mark.timeout(2400)
 def test_the_library_that_pip_compiles_passes_the_package_s_own_tests(packed, drawn, tmp_path):
     """The compiler gets nothing but the archive of sources. The driver's code is that for other systems than Linux, and
     starts threads. The library runs on any processor, so none is too old; and the other library's tests measure times.
@@ -214,14 +212,18 @@ def test_all_code_of_the_page_runs(with_library):
     run(PYTHON, "-c", code, env=with_library)
 
 
-def test_the_row_of_readme_works_where_python_takes_no_packages_outside_of_an_environment(tmp_path):
-    (row,) = re.findall(r"^\| \[Python\].*\| `([^`]*)` \| `[^`]*` \|$", (TOP / "README.md").read_text(), re.M)
+@pytest.mark.parametrize("how", ["with a package index", "without one"])
+def test_the_rows_of_readme_work_where_python_takes_no_packages_outside_of_an_environment(tmp_path, how):
+    pattern = rf"^\| \[Python\][^|]*, {how} \| `([^`]*)` \| `[^`]*` \|$"
+    (row,) = re.findall(pattern, (TOP / "README.md").read_text(), re.M)
     assert "pip install" in row
     (tmp_path / "lines").write_text(first_lines("PYTHON.md"))
-    # hatchling is Debian's, since there is no network.
+    # There is no network. So for pip, hatchling is Debian's.
+    path = "/usr/lib/python3/dist-packages"
+    index = {"PIP_NO_BUILD_ISOLATION": "no", "PYTHONPATH": path} if "index" in how else {"MACHINES": MACHINE}
+    row = row.replace("wheel &&", f"wheel --to {tmp_path} &&").replace("out/packages", str(tmp_path))
     run("bash", "-c", f'{row} && python "$HOME/lines"', env={
-        "HOME": tmp_path, "PIP_CONFIG_FILE": None, "PIP_NO_BUILD_ISOLATION": "no",
-        "PYTHONPATH": "/usr/lib/python3/dist-packages"})
+        "HOME": tmp_path, "PIP_CONFIG_FILE": None, "PYTHONPATH": None, **index})
 
 
 def test_the_service(with_library):

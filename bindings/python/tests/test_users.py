@@ -53,7 +53,7 @@ def lines(title):
 def run(*pieces):
     """Run a program, which must succeed, and return its output."""
     words = [sys.executable, "-W", "ignore", "-c", "\n".join(pieces)]
-    done = subprocess.run(words, capture_output=True, text=True, timeout=600)
+    done = subprocess.run(words, capture_output=True, text=True)
     assert done.returncode == 0, done.stderr
     return done.stdout
 

@@ -8,8 +8,8 @@
 
 `encoded` is an encoded hash (PHC string): store it for the user. `AsyncPasswordHasher` is for services that use
 asyncio, `PepperedHasher` for services with a pepper, `AsyncPepperedHasher` for those with both, and `tune` finds
-settings for this machine. `low_level` has calls over bytes, `profiles` has recommended settings, and `exceptions` has
-what the calls raise.
+settings for this machine. `low_level` has calls over bytes, and `profiles` has recommended settings. The exceptions
+that the calls raise are here and, as in argon2-cffi, in `exceptions`.
 
 The constants `DEFAULT_*` are the settings of `PasswordHasher()`: the memory in KiB, lengths in bytes, and the time in
 passes.
@@ -31,6 +31,18 @@ from ._password_hasher import (
 from ._peppers import PepperedHasher
 from ._settings import DEFAULT_LIMITS, Limits, Parameters
 from ._tuning import Tuning, tune, tune_async
+from .exceptions import (
+    Argon2Error,
+    BusyError,
+    HashingError,
+    InvalidHash,
+    InvalidHashError,
+    TooCostlyError,
+    UnknownPepperError,
+    UnsupportedParametersError,
+    VerificationError,
+    VerifyMismatchError,
+)
 from .low_level import Type
 
 __version__ = "1.0.0"
@@ -44,20 +56,30 @@ for _public in (
 del _public
 
 __all__ = [
+    "Argon2Error",
     "AsyncPasswordHasher",
     "AsyncPepperedHasher",
+    "BusyError",
     "DEFAULT_HASH_LENGTH",
     "DEFAULT_LIMITS",
     "DEFAULT_MEMORY_COST",
     "DEFAULT_PARALLELISM",
     "DEFAULT_RANDOM_SALT_LENGTH",
     "DEFAULT_TIME_COST",
+    "HashingError",
+    "InvalidHash",
+    "InvalidHashError",
     "Limits",
     "Parameters",
     "PasswordHasher",
     "PepperedHasher",
+    "TooCostlyError",
     "Tuning",
     "Type",
+    "UnknownPepperError",
+    "UnsupportedParametersError",
+    "VerificationError",
+    "VerifyMismatchError",
     "exceptions",
     "extract_parameters",
     "hash_password",

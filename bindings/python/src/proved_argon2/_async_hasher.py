@@ -1,5 +1,7 @@
 """A `PasswordHasher` and a `PepperedHasher` for asyncio."""
+from ._library import hashes_at_once
 from ._machine import memory, processors
+from ._library import MAX_BUFFERS
 from ._memory import Memory
 from ._password_hasher import PasswordHasher, require_types
 from ._peppers import PepperedHasher
@@ -14,14 +16,12 @@ if TYPE_CHECKING:
     Result = TypeVar("Result")
 
 _WAITING_FOR_EACH = 16
-_LEAST_KIB = 8  # of a hash
 
 
 def _default_concurrency(hasher: PasswordHasher) -> int:
     """How many hashes can run within a quarter of the memory, with a processor for each lane; at least one."""
     by_processors = processors() // max(1, hasher.parallelism)
-    by_memory = memory() // (4 * 1024 * max(_LEAST_KIB, hasher.memory_cost))
-    return max(1, min(by_processors, by_memory))
+    return max(1, min(by_processors, hashes_at_once(hasher.memory_cost, memory() // 4)))
 
 
 class _AsyncCalls:
@@ -37,7 +37,22 @@ class _AsyncCalls:
         require_types(waiting=(self.waiting, int))
         if self.concurrency < 1 or self.waiting < 0:
             raise ValueError("'concurrency' must be at least 1, and 'waiting' at least 0")
-        self._pool = Pool(self.concurrency, self.waiting, Memory(own.memory_cost, self.concurrency))
+        self._pool = Pool(self.concurrency, self.waiting, Memory(own.memory_cost, min(self.concurrency, MAX_BUFFERS)))
+
+    @property
+    def running(self) -> int:
+        """How many calls compute now."""
+        return len(self._pool.computing)
+
+    @property
+    def queued(self) -> int:
+        """How many calls wait now. `waiting` is how many may."""
+        return self._pool.queued
+
+    @property
+    def refused(self) -> int:
+        """How many calls have raised `BusyError` so far."""
+        return self._pool.refused
 
     async def run(self, call: "Callable[..., Result]", *arguments: "Any", **named: "Any") -> "Result":
         """Make another call in the same threads, and return its result.

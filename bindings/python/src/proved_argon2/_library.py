@@ -32,6 +32,8 @@ TOO_COSTLY = 69
 MAX_NUMBER = 0xFFFFFFFF
 # The slices of a pass.
 SLICES = 4
+# The most kept buffers of a handle.
+MAX_BUFFERS = 8192
 
 
 class Settings(ctypes.Structure):
@@ -119,6 +121,8 @@ _CALLS: "Dict[str, Tuple[List[Any], Any]]" = {
     "hash_encoded_with": (_HASHING, ctypes.c_uint32),
     "verify_encoded_with": ([ctypes.POINTER(Options), *4 * _BYTES], ctypes.c_uint32),
     "default_limits": ([], NumberLimits),
+    "limits_for": (_SETTINGS, NumberLimits),
+    "hashes_at_once": ([*_SETTINGS, ctypes.c_uint64], ctypes.c_uint32),
     "read": ([*_BYTES, ctypes.POINTER(Stored)], ctypes.c_uint32),
     "encoded_len": ([*_SETTINGS, ctypes.c_uint32], ctypes.c_uint64),
     "password_verify_unknown": ([ctypes.POINTER(Options), *_SETTINGS, *2 * _BYTES], ctypes.c_uint32),
@@ -361,8 +365,7 @@ def _options(threads: int) -> Options:
 def buffers_new(memory_cost: int, most: int) -> int:
     """Return the address of a handle for at most `most` kept buffers of `memory_cost` KiB."""
     handle = ctypes.c_void_p()
-    settings = Settings(variant=2, version=0x13, mem_cost=memory_cost, time_cost=1, lanes=1, hash_length=32)
-    _require(_library.proved_argon2_buffers_new(settings, most, handle))
+    _require(_library.proved_argon2_buffers_new(_of_memory(memory_cost), most, handle))
     return handle.value or 0
 
 
@@ -383,6 +386,22 @@ def default_limits() -> NumberLimits:
     """Return the library's default limits."""
     limits: NumberLimits = _library.proved_argon2_default_limits()
     return limits
+
+
+def limits_for(memory_cost: int, time_cost: int, parallelism: int) -> NumberLimits:
+    """Return the library's default limits, each raised to that of these settings."""
+    settings = Settings(mem_cost=memory_cost, time_cost=time_cost, lanes=parallelism)
+    limits: NumberLimits = _library.proved_argon2_limits_for(settings)
+    return limits
+
+
+def hashes_at_once(memory_cost: int, memory: int) -> int:
+    """Return how many hashes of `memory_cost` KiB fit into so many bytes of memory."""
+    return int(_library.proved_argon2_hashes_at_once(_of_memory(memory_cost), memory))
+
+
+def _of_memory(memory_cost: int) -> Settings:
+    return Settings(variant=2, version=0x13, mem_cost=memory_cost, time_cost=1, lanes=1, hash_length=32)
 
 
 def read(text: bytes) -> Stored:

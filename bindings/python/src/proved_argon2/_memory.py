@@ -19,7 +19,7 @@ class Memory:
 
     Any thread may use it, and so may a forked child. A copy starts without buffers, and so does an unpickled one.
 
-    Raises `HashingError` if no hash can have this memory, or memory cannot be allocated.
+    Raises `HashingError` if no hash can have this memory, `most` is above 8,192, or memory cannot be allocated.
     """
 
     handle: "Optional[int]" = None

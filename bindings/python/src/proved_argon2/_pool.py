@@ -63,7 +63,13 @@ class Pool:
         self._changed = threading.Condition(threading.Lock())
         self._threads = 0
         self._waiting: "Deque[Job]" = deque()
+        self.refused = 0
         self.computing: "Dict[int, Job]" = {}  # by the number of the thread
+
+    @property
+    def queued(self) -> int:
+        """How many calls wait."""
+        return len(self._waiting)
 
     async def run(
         self, call: "Callable[..., Any]", arguments: "Tuple[Any, ...]", named: "Dict[str, Any]"
@@ -88,6 +94,7 @@ class Pool:
         with self._changed:
             count = len(self.computing) + len(self._waiting)
             if count >= self._most:
+                self.refused += 1
                 raise BusyError(f"{count} calls compute or wait")
             if self._threads <= count and self._threads < self._size:
                 self._start_thread()
@@ -102,6 +109,7 @@ class Pool:
             self._threads += 1
         except RuntimeError as error:
             if self._threads == 0:
+                self.refused += 1
                 raise BusyError(f"the system denied a thread: {error}") from None
 
     def _work(self) -> None:

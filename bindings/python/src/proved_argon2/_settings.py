@@ -2,7 +2,7 @@
 from collections import namedtuple
 from types import SimpleNamespace
 
-from ._library import MAX_NUMBER, NumberLimits, default_limits, require_number
+from ._library import MAX_NUMBER, NumberLimits, default_limits, limits_for, require_number
 
 TYPE_CHECKING = False
 if TYPE_CHECKING:
@@ -83,9 +83,8 @@ DEFAULT_LIMITS = Limits()
 
 def default_limits_of(memory_cost: int, time_cost: int, parallelism: int) -> Limits:
     """Return the default limits, raised to settings, so that a hasher can verify its own hashes."""
-    memory, passes, lanes = (min(max(number, 0), MAX_NUMBER) for number in (memory_cost, time_cost, parallelism))
-    own = (memory, passes, lanes, memory * passes)
-    return Limits(*(max(limit, number) for limit, number in zip(DEFAULT_LIMITS, own)))
+    most = limits_for(*(min(max(number, 0), MAX_NUMBER) for number in (memory_cost, time_cost, parallelism)))
+    return Limits(most.mem_cost, most.time_cost, most.lanes, most.work)
 
 
 def numbers_of(limits: "Optional[Limits]") -> "Optional[NumberLimits]":
