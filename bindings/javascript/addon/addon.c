@@ -12,7 +12,7 @@
 #include <time.h>
 #include <unistd.h>
 
-#define MOST_PARTS 8
+#define MOST_PARTS 10
 #define MOST_IDLE 8
 #define STACK ((size_t)1 << 20)
 #define KEPT_KIB 65536 /* the largest hash whose memory is kept */
@@ -106,11 +106,13 @@ static napi_value encoded_len(napi_env env, napi_callback_info info)
     return number(env, proved_argon2_encoded_len(of[1].at, (uint32_t)of[0].len));
 }
 
-static napi_value encode(napi_env env, napi_callback_info info)
+static napi_value check_encoded(napi_env env, napi_callback_info info)
 {
     part of[4];
     take(env, info, of, 4);
-    return number(env, proved_argon2_encode(of[0].at, of[0].len, of[1].at, of[2].at, of[2].len, of[3].at, of[3].len));
+    const uint64_t *const lengths = of[2].at;
+    return number(
+        env, proved_argon2_check_encoded(of[0].at, of[0].len, of[1].at, lengths[0], lengths[1], lengths[2], of[3].at));
 }
 
 /* ---- runs */
@@ -121,12 +123,27 @@ static uint32_t compute_hash(proved_argon2_options *with, const part *of)
         of[4].len, of[5].at, of[6].at, of[6].len);
 }
 
+static uint32_t compute_encoded(proved_argon2_options *with, const part *of)
+{
+    return proved_argon2_hash_encoded_with(with, of[1].at, of[1].len, of[2].at, of[2].len, of[3].at, of[3].len,
+        of[4].at, of[4].len, of[5].at, of[6].at, of[6].len);
+}
+
 static uint32_t compute_verdict(proved_argon2_options *with, const part *of)
 {
     with->limits = of[5].at;
-    with->new_settings = of[6].len == 0 ? NULL : of[6].at;
     return proved_argon2_verify_encoded_with(
         with, of[2].at, of[2].len, of[1].at, of[1].len, of[3].at, of[3].len, of[4].at, of[4].len);
+}
+
+/* (New salts have the default length.) */
+static uint32_t compute_renewal(proved_argon2_options *with, const part *of)
+{
+    with->limits = of[5].at;
+    with->new_settings = of[7].at;
+    with->new_salt_len = PROVED_ARGON2_SALT_SIZE;
+    return proved_argon2_password_renew(with, of[2].at, of[2].len, of[1].at, of[1].len, of[3].at, of[3].len, of[6].at,
+        of[6].len, of[4].at, of[4].len, of[8].at, of[8].len);
 }
 
 static uint32_t compute_unknown(proved_argon2_options *with, const part *of)
@@ -141,7 +158,9 @@ static uint32_t compute_tuning(proved_argon2_options *with, const part *of)
 }
 
 static const kind hashing = {7, compute_hash};
-static const kind verifying = {7, compute_verdict};
+static const kind hashing_encoded = {7, compute_encoded};
+static const kind verifying = {6, compute_verdict};
+static const kind renewing = {9, compute_renewal};
 static const kind verifying_unknown = {4, compute_unknown};
 static const kind searching = {4, compute_tuning};
 
@@ -354,6 +373,16 @@ static napi_value hash(napi_env env, napi_callback_info info)
     return begin(env, info, &hashing);
 }
 
+static napi_value hash_encoded(napi_env env, napi_callback_info info)
+{
+    return begin(env, info, &hashing_encoded);
+}
+
+static napi_value renew(napi_env env, napi_callback_info info)
+{
+    return begin(env, info, &renewing);
+}
+
 static napi_value verify(napi_env env, napi_callback_info info)
 {
     return begin(env, info, &verifying);
@@ -390,8 +419,9 @@ napi_value napi_register_module_v1(napi_env env, napi_value exports)
     static const struct {
         const char *name;
         napi_callback call;
-    } calls[] = {{"check", check}, {"needsRehash", needs_rehash}, {"encodedLength", encoded_len}, {"encode", encode},
-        {"hash", hash}, {"verify", verify}, {"verifyUnknown", verify_unknown}, {"tune", tune}};
+    } calls[] = {{"check", check}, {"checkEncoded", check_encoded}, {"needsRehash", needs_rehash},
+        {"encodedLength", encoded_len}, {"hash", hash}, {"hashEncoded", hash_encoded}, {"verify", verify},
+        {"renew", renew}, {"verifyUnknown", verify_unknown}, {"tune", tune}};
     static pthread_once_t once = PTHREAD_ONCE_INIT;
     pthread_once(&once, make_pool);
     for (size_t i = 0; i < sizeof calls / sizeof *calls; i++) {

@@ -67,19 +67,24 @@ export function passwordOf(value) {
     return most.subarray(0, new TextEncoder().encodeInto(value, most).written);
 }
 
-/** The inputs of a hash. They are overwritten as soon as the job is made from them. */
+/** The inputs of a hash. They are overwritten as soon as the job is made from them, unless another hash needs them. */
 export class Inputs {
+    isKept = false;
+
     constructor({ password, salt, secret, associatedData }) {
         Object.assign(this, { password, salt, secret, associatedData });
     }
 
     /** The buffers to move to a worker, so that no copy stays here: all but the salt, which is not secret. */
     get moved() {
-        return [this.password, this.secret, this.associatedData].map((bytes) => bytes.buffer);
+        return this.isKept ? [] : [this.password, this.secret, this.associatedData].map((bytes) => bytes.buffer);
     }
 
     clear() {
-        for (const bytes of Object.values(this)) {
+        if (this.isKept) {
+            return;
+        }
+        for (const bytes of [this.password, this.salt, this.secret, this.associatedData]) {
             // (A buffer that was moved to a worker has no bytes left here.)
             if (bytes?.length > 0) {
                 bytes.fill(0);

@@ -1,13 +1,13 @@
 // The calls that hash and verify.
 import { allocate, copyOf, Inputs } from './bytes.js';
 import { MISMATCH, NEEDS_REHASH, Rejected, TOO_COSTLY, check, errorOf } from './codes.js';
-import { Encoder } from './encoder.js';
+import { Encoder, phcOf } from './encoder.js';
 import { Argon2Error } from './errors.js';
 import { Line, Progress } from './line.js';
 import { openCalls, runInPlace } from './module.js';
 import { addonFor, runByThreads } from './native.js';
 import {
-    encodedOf, inputsOf, isRaw, limitsOf, optionOf, optionsOf, runningOf, SALT_LENGTH, settingsOf,
+    encodedOf, inputsOf, isRaw, limitsOf, optionOf, optionsOf, randomSalt, runningOf, SALT_LENGTH, settingsOf,
 } from './options.js';
 import { canStartWorkers } from './platform.js';
 import { runByWorkers } from './pool.js';
@@ -81,15 +81,25 @@ function callWith({ line, addon, progress }, inputs, work) {
 /** Hashes a password to a PHC string, or to bytes. */
 export async function hash(password, options = {}) {
     const own = optionsOf(options);
+    return hashInputs(own, () => inputsOf(password, own));
+}
+
+/** Hashes inputs, which are taken once the other options are known to be valid. */
+async function hashInputs(own, takeInputs) {
     const settings = settingsOf(own);
     const ways = waysOf(own);
     const raw = isRaw(own);
-    const inputs = inputsOf(password, own);
+    const inputs = takeInputs();
     const salt = copyOf(inputs.salt);
     return callWith(ways, inputs, async (encoder) => {
         encoder.checkSettings(settings, inputs);
-        const { code, tag } = await compute(taskOf({ settings, saltLength: 0, inputs }), ways);
+        const isText = !raw && ways.addon !== undefined;
+        const textLength = isText ? encoder.sizeOf(salt, settings) : undefined;
+        const { code, tag } = await compute(taskOf({ settings, saltLength: 0, inputs, textLength }), ways);
         check(code);
+        if (isText) {
+            return phcOf(tag);
+        }
         return raw ? tag : encodeAndClear(encoder, salt, settings, tag);
     });
 }
@@ -112,32 +122,41 @@ function verifyingWaysOf(own) {
 
 /** Verifies a password against a PHC string. If that cannot be decided, it rejects. */
 export async function verify(encoded, password, options = {}) {
-    const { matches } = await verifyFor(encoded, password, options);
+    const own = optionsOf(options);
+    const { data } = encodedOf(encoded);
+    const ways = verifyingWaysOf(own);
+    const { matches } = await verifyInputs(encoded, verifiedOf(password, data, own), ways);
     return matches;
 }
 
-/** Does the same, and also returns whether the string has other settings than the new ones, if there are any. */
-async function verifyFor(encoded, password, options, newSettings) {
-    const own = optionsOf(options);
-    const { bytes, data } = encodedOf(encoded);
-    const ways = verifyingWaysOf(own);
-    const inputs = inputsOf(password, { __proto__: null, associatedData: data, ...own, salt: allocate(0) });
+/** The inputs of a verification. The associated data of the PHC string is that of options without any. */
+const verifiedOf = (password, data, own) =>
+    inputsOf(password, { __proto__: null, associatedData: data, ...own, salt: allocate(0) });
+
+/**
+ * Does the same. For a renewal, with the new settings and perhaps a new secret, it also returns the new PHC string if
+ * the addon made one, or whether it is still to be made: the addon makes both hashes with the same associated data.
+ */
+async function verifyInputs(encoded, inputs, ways, renewal) {
+    const { bytes } = encodedOf(encoded);
     return callWith(ways, inputs, async (encoder) => {
         const { limits, addon } = ways;
-        const decoded = addon ? { settings: settingsNamedIn(encoded) } : encoder.decode(bytes, limits, inputs);
-        const { code } = await compute(taskOf({ encoded: bytes, inputs, limits, newSettings, ...decoded }), ways);
+        const decoded = encoder.decode(bytes, limits, inputs);
+        const byAddon = addon && renewal?.hasSameData
+            && { ...renewal, textLength: encoder.sizeOf(allocate(SALT_LENGTH), renewal.settings) };
+        const task = taskOf({ encoded: bytes, inputs, limits, renewal: byAddon || undefined, ...decoded });
+        const { code, tag } = await compute(task, ways);
         if (code !== MISMATCH && code !== NEEDS_REHASH) {
             check(code);
         }
-        const hasOthers = newSettings?.some((number, i) => number !== decoded.settings[i]);
-        return { matches: code !== MISMATCH, isDue: addon ? code === NEEDS_REHASH : hasOthers };
+        const isDue = !byAddon && renewal && isOutdated(decoded, renewal);
+        return { matches: code !== MISMATCH, isDue, update: code === NEEDS_REHASH ? phcOf(tag) : null };
     });
 }
 
-/** Settings with the lanes of a PHC string, for which threads are needed. The addon decodes the string itself. */
-function settingsNamedIn(encoded) {
-    const [, lanes = 1] = encoded.match(/,p=(\d{1,8})/) ?? [];
-    return settingsOf({ parallelism: Math.max(1, Number(lanes)) });
+/** Whether a string is to be renewed, as the addon decides it. */
+function isOutdated({ settings, saltLength }, { settings: wanted, newSecret }) {
+    return newSecret !== undefined || saltLength !== SALT_LENGTH || wanted.some((number, i) => number !== settings[i]);
 }
 
 /** Takes as long as verifying a PHC string of these settings, for a user who does not exist, and gives false. */
@@ -204,26 +223,47 @@ export async function verifyAndRenew(encoded, password, options, newSecret) {
     const all = optionsOf(options);
     const settings = settingsOf(all); // (rejects invalid settings whatever the password is)
     const limits = all.limits && limitsOf(all);
-    const inputs = inputsOf(password, { __proto__: null, ...all, salt: allocate(0) });
-    const associatedData = all.associatedData && inputs.associatedData;
-    const copied = { limits, secret: inputs.secret, associatedData };
-    const own = { __proto__: null, ...all, ...copied, line: undefined, salt: undefined, raw: undefined };
+    const { data } = encodedOf(encoded);
+    const inputs = verifiedOf(password, data, all);
+    const own = optionsOf({ ...all, limits, line: undefined, raw: undefined });
     return callInLine(all.line, all, inputs, async () => {
-        const { matches, isDue } = await verifyFor(encoded, inputs.password, own, settings);
-        const isRenewed = matches && (isDue || newSecret !== undefined);
-        return { matches, update: isRenewed ? await renewed(inputs.password, own, newSecret) : null };
+        const hasSameData = data === undefined || own.associatedData !== undefined;
+        const renewal = { settings, newSecret, hasSameData };
+        const { matches, isDue, update } = await verifyKept(encoded, inputs, verifyingWaysOf(own), renewal);
+        return { matches, update: matches && isDue ? await renewed(inputs, own, newSecret) : update };
+    });
+}
+
+/** Verifies inputs that are needed again if the PHC string is renewed. */
+async function verifyKept(encoded, inputs, ways, renewal) {
+    inputs.isKept = true;
+    try {
+        return await verifyInputs(encoded, inputs, ways, renewal);
+    } finally {
+        inputs.isKept = false;
+    }
+}
+
+/** The inputs of the new hash. (Data of the old PHC string, which no option passes, is none of them.) */
+function renewedInputsOf({ password, secret, associatedData }, own, newSecret) {
+    return new Inputs({
+        password,
+        salt: randomSalt(),
+        secret: newSecret === undefined ? secret : copyOf(newSecret),
+        associatedData: own.associatedData === undefined ? allocate(0) : associatedData,
     });
 }
 
 /** The PHC string to store in place of the old one, or null if the old one stays because the new one fails. */
-async function renewed(password, options, newSecret) {
+async function renewed(inputs, options, newSecret) {
     const progress = new Progress(options.onProgress, options.signal);
     const onProgress = options.onProgress && ((done, all) => {
         progress.report(done, all);
         progress.throwIfStopped();
     });
     try {
-        return await hash(password, { ...options, onProgress, secret: newSecret ?? options.secret });
+        const own = optionsOf({ ...options, onProgress });
+        return await hashInputs(own, () => renewedInputsOf(inputs, own, newSecret));
     } catch (error) {
         progress.throwIfStopped(); // whatever class the callback's error or the signal's reason has
         if (error instanceof Argon2Error || error instanceof RangeError) {

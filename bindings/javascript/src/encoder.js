@@ -1,12 +1,15 @@
 // Calls that need neither a password nor memory for blocks: they check settings, and decode and encode strings. Their
 // errors come before a worker starts. The addon and the module have the same calls, with the same arrays, but the addon
-// does not decode: it verifies in one call.
+// does not encode: it writes a PHC string itself.
 import { NEEDS_REHASH, check } from './codes.js';
 import { SETTINGS } from './run.js';
 
 /** Limits as C lays them out, where the work has 64 bits. */
 export const limitsAsNumbers = ({ memoryCost, timeCost, parallelism, work }) => Uint32Array.of(
     memoryCost, timeCost, parallelism, 0, Number(BigInt.asUintN(32, BigInt(work))), Number(BigInt(work) >> 32n));
+
+/** The PHC string that the library wrote, with a zero behind it. */
+export const phcOf = (bytes) => new TextDecoder().decode(bytes).slice(0, -1);
 
 const lengthsOf = (...inputs) => BigUint64Array.from(inputs, ({ length }) => BigInt(length));
 
@@ -32,10 +35,14 @@ export class Encoder {
 
     /** The PHC string of a tag. */
     encode(salt, settings, tag) {
-        const numbers = Uint32Array.from(settings);
-        const text = new Uint8Array(this.#calls.encodedLength(salt, numbers) + 1);
-        check(this.#calls.encode(salt, numbers, tag, text));
-        return new TextDecoder().decode(text).slice(0, -1);
+        const text = new Uint8Array(this.sizeOf(salt, settings));
+        check(this.#calls.encode(salt, Uint32Array.from(settings), tag, text));
+        return phcOf(text);
+    }
+
+    /** The bytes of the PHC string for a salt, with a zero behind it. */
+    sizeOf(salt, settings) {
+        return this.#calls.encodedLength(salt, Uint32Array.from(settings)) + 1;
     }
 
     /** Whether a PHC string has other settings than these. */

@@ -78,6 +78,12 @@ export class Line {
     readonly concurrency: number;
     /** How many more may wait. */
     readonly waiting: number;
+    /** How many calls compute now. */
+    readonly running: number;
+    /** How many calls wait now. */
+    readonly queued: number;
+    /** How many calls were rejected with `BusyError` so far. */
+    readonly refused: number;
     /** Calls a function in its turn, and counts it until it has ended. In the function, make calls without `line`. */
     run<T>(call: () => T | PromiseLike<T>, options?: { signal?: StopSignal }): Promise<T>;
 }

@@ -107,6 +107,11 @@ export class Places {
         return this.#waiting.size;
     }
 
+    /** How many places are taken. */
+    get taken() {
+        return this.#taken;
+    }
+
     /** Takes the free places, up to a maximum. Returns how many it took. */
     take(most) {
         const count = Math.max(0, Math.min(most, this.#all() - this.#taken));
@@ -163,6 +168,7 @@ function fittingIn({ memoryCost, parallelism }) {
 /** Limits how many calls compute at the same time, and how many more may wait. */
 export class Line {
     #places = new Places(() => this.concurrency);
+    #refused = 0;
 
     constructor(options = {}) {
         const own = { __proto__: null, ...DEFAULTS, ...ownOf(options, NAMES_OF_LINE, 'options') };
@@ -175,6 +181,21 @@ export class Line {
         Object.freeze(this);
     }
 
+    /** How many calls compute now. */
+    get running() {
+        return this.#places.taken;
+    }
+
+    /** How many calls wait now. */
+    get queued() {
+        return this.#places.waiting;
+    }
+
+    /** How many calls were rejected with `BusyError` so far. */
+    get refused() {
+        return this.#refused;
+    }
+
     /** Makes a call when a place is free, and returns its result. The place is free again when the call has ended. */
     async run(call, options = {}) {
         const { signal } = { __proto__: null, ...options };
@@ -182,6 +203,7 @@ export class Line {
         progress.throwIfStopped();
         if (this.#places.take(1) === 0) {
             if (this.#places.waiting >= this.waiting) {
+                this.#refused += 1;
                 throw new BusyError('Too many calls compute or wait');
             }
             await this.#places.wait(progress).catch(() => progress.throwIfStopped());

@@ -64,7 +64,7 @@ function callOver(memory, name, ...values) {
     }
 }
 
-/** The quick calls, computed by the module. The addon has the same, except for the one that decodes. */
+/** The quick calls, computed by the module. The addon has the same, except for the one that encodes. */
 export async function openCalls() {
     const memory = await opened.get();
     const call = (...values) => callOver(memory, ...values);

@@ -55,12 +55,26 @@ function allocateTag(length) {
     }
 }
 
-/** A call of the addon, the arrays that it is passed behind the control, and one of these: the tag of a hash. */
-function callOf(addon, { encoded, found, inputs, isUnknown, limits, nanoseconds, newSettings, settings }) {
+/** Room for a new PHC string. Without memory for it the library makes none, and the old one stays. */
+function roomFor(length) {
+    try {
+        return allocate(length);
+    } catch {
+        return allocate(0);
+    }
+}
+
+/** A call of the addon, the arrays that it is passed behind the control, and the one of these that it writes. */
+function callOf(addon, { encoded, found, inputs, isUnknown, limits, nanoseconds, renewal, settings, textLength }) {
     const { password, salt, secret, associatedData } = inputs;
     if (encoded !== undefined) {
-        const numbers = [limitsAsNumbers(limits), Uint32Array.from(newSettings ?? [])];
-        return { begin: addon.verify, parts: [password, encoded, secret, associatedData, ...numbers] };
+        const parts = [password, encoded, secret, associatedData, limitsAsNumbers(limits)];
+        if (renewal === undefined) {
+            return { begin: addon.verify, parts };
+        }
+        const text = roomFor(renewal.textLength);
+        const renewing = [renewal.newSecret ?? allocate(0), Uint32Array.from(renewal.settings), text];
+        return { begin: addon.renew, parts: [...parts, ...renewing], tag: text };
     }
     const numbers = Uint32Array.from(settings);
     if (found !== undefined) {
@@ -69,8 +83,9 @@ function callOf(addon, { encoded, found, inputs, isUnknown, limits, nanoseconds,
     if (isUnknown) {
         return { begin: addon.verifyUnknown, parts: [password, secret, numbers] };
     }
-    const tag = allocateTag(hashLengthOf(settings));
-    return { begin: addon.hash, parts: [password, salt, secret, associatedData, numbers, tag], tag };
+    const tag = allocateTag(textLength ?? hashLengthOf(settings));
+    const begin = textLength === undefined ? addon.hash : addon.hashEncoded;
+    return { begin, parts: [password, salt, secret, associatedData, numbers, tag], tag };
 }
 
 /** Waits for the end of a run, and returns its code. */

@@ -129,7 +129,7 @@ export function encodedOf(encoded) {
 const bytesOrNone = (name, value) => (value === undefined ? allocate(0) : bytesOf(name, value));
 
 /** A new salt of 16 bytes (RFC 9106, 3.1). */
-function randomSalt() {
+export function randomSalt() {
     try {
         return crypto.getRandomValues(allocate(SALT_LENGTH));
     } catch (cause) {

@@ -79,7 +79,7 @@ struct napi_env__ {
 };
 
 static struct napi_env__ env;
-static struct napi_value__ values[8], numbers[3 * RUNS];
+static struct napi_value__ values[10], numbers[3 * RUNS];
 static struct napi_threadsafe_function__ functions[RUNS];
 static size_t used_numbers;
 static napi_callback hash;

@@ -17,7 +17,7 @@ export const isThere = (program) => spawnSync('sh', ['-c', `command -v ${program
 export class BrowserEnded extends Error {}
 
 /** The timeout of a browser's steps, in milliseconds: nothing waits for ever. */
-const LONGEST_WAIT = 300000;
+const LONGEST_WAIT = 3600000;
 const TYPES = { '.html': 'text/html', '.css': 'text/css', '.js': 'text/javascript', '.wasm': 'application/wasm' };
 /** These isolate a page from other origins, so that its workers can share a memory. */
 const ISOLATED = { 'Cross-Origin-Opener-Policy': 'same-origin', 'Cross-Origin-Embedder-Policy': 'require-corp' };

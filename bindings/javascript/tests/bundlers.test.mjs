@@ -63,7 +63,7 @@ function folderWith(program, name = 'app.mjs') {
 // Debian's programs then find what they need, even in a Node that is not Debian's.
 const NODE_OPTIONS = `--require=${join(import.meta.dirname, 'debian.cjs')}`;
 const env = { ...process.env, NODE_PATH: '/usr/share/nodejs', NODE_OPTIONS };
-const run = (folder, command, ...words) => promisify(execFile)(command, words, { cwd: folder, timeout: 600000, env });
+const run = (folder, command, ...words) => promisify(execFile)(command, words, { cwd: folder, env });
 
 /** Checks the output of a folder's page, whose program is bundle.js. */
 async function runsInPage(folder, policy, isIsolated) {

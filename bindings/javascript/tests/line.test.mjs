@@ -12,7 +12,6 @@ import { BusyError, hash, Line, PepperedHasher, verify, verifyAndUpdate } from '
 const SMALL = { memoryCost: 64, timeCost: 1 };
 const ENDLESS = { memoryCost: 4096, timeCost: 2 ** 31 };
 const MISMATCH = { matches: false, update: null };
-const limited = { timeout: 60000 };
 const key = new TextEncoder().encode('pepper');
 const old = await hash('password', { ...SMALL, timeCost: 2 });
 
@@ -24,7 +23,7 @@ async function requireFree(line) {
     assert.equal(await verify(await two[0], 'password', { line }), true);
 }
 
-test('some calls compute, some wait in their order, and others are rejected at once', limited, async () => {
+test('some calls compute, some wait in their order, and others are rejected at once', async () => {
     const line = new Line({ concurrency: 2, waiting: 3 });
     const begun = [];
     const ends = [];
@@ -35,6 +34,7 @@ test('some calls compute, some wait in their order, and others are rejected at o
     const calls = [0, 1, 2, 3, 4].map(begin);
     await assert.rejects(begin(5), { name: 'BusyError', message: 'Too many calls compute or wait', code: 257 });
     assert.deepEqual(begun, [0, 1]);
+    assert.deepEqual([line.running, line.queued, line.refused], [2, 3, 1]);
     ends[1].resolve('one');
     assert.equal(await calls[1], 'one');
     calls.push(begin(5));
@@ -48,6 +48,7 @@ test('some calls compute, some wait in their order, and others are rejected at o
     }
     await Promise.all(calls.slice(1));
     assert.deepEqual(begun, [0, 1, 2, 3, 4, 5]);
+    assert.deepEqual([line.running, line.queued, line.refused], [0, 0, 2]);
 });
 
 /** Aborts a call as it reports its progress. */
@@ -76,14 +77,14 @@ const OUTCOMES = {
 };
 
 for (const [what, call] of Object.entries(OUTCOMES)) {
-    test(`${what} frees its place`, limited, async () => {
+    test(`${what} frees its place`, async () => {
         const line = new Line({ concurrency: 1, waiting: 1 });
         await Promise.resolve(call(line)).catch((error) => assert.notEqual(error.name, 'BusyError'));
         await requireFree(line);
     });
 }
 
-test('a call that is aborted while it waits leaves the line', limited, async () => {
+test('a call that is aborted while it waits leaves the line', async () => {
     const line = new Line({ concurrency: 1, waiting: 1 });
     const controllers = [new AbortController(), new AbortController()];
     const calls = controllers.map(({ signal }) => hash('password', { ...ENDLESS, line, signal }));
@@ -98,7 +99,7 @@ test('a call that is aborted while it waits leaves the line', limited, async () 
     await requireFree(line);
 });
 
-test('a signal that is not aborted stops no call that waits, whatever event it dispatches', limited, async () => {
+test('a signal that is not aborted stops no call that waits, whatever event it dispatches', async () => {
     const line = new Line({ concurrency: 1 });
     const { signal } = new AbortController();
     let release;
@@ -117,7 +118,7 @@ test('a signal that is not aborted stops no call that waits, whatever event it d
     assert.equal(isRunning, true);
 });
 
-test('calls with the same signal share one listener, which stays until the last has ended', limited, async () => {
+test('calls with the same signal share one listener, which stays until the last has ended', async () => {
     const controller = new AbortController();
     const { signal } = controller;
     const countListeners = () => getEventListeners(signal, 'abort').length;
@@ -131,7 +132,7 @@ test('calls with the same signal share one listener, which stays until the last 
     assert.deepEqual([listeners, countListeners()], [1, 0]);
 });
 
-test('many calls that wait for the same signal are stopped soon', limited, async () => {
+test('many calls that wait for the same signal are stopped soon', async () => {
     const line = new Line({ concurrency: 1, waiting: 20000 });
     const controller = new AbortController();
     const holding = line.run(() => sleep(1));
@@ -145,7 +146,7 @@ test('many calls that wait for the same signal are stopped soon', limited, async
     assert.ok(took < 5000, `${took} milliseconds`);
 });
 
-test('the limits of a call that waits are those at its beginning', limited, async () => {
+test('the limits of a call that waits are those at its beginning', async () => {
     const line = new Line({ concurrency: 1 });
     let release;
     const holding = line.run(() => new Promise((resolve) => {
@@ -176,6 +177,27 @@ test('verifyAndUpdate takes one place for both of its calls, and copies its inpu
     // One of these waits until the call has ended.
     assert.deepEqual((await Promise.all(busy)).filter((outcome) => outcome !== 'BusyError'), [1]);
     assert.equal(busy.length, 8 + 4);
+});
+
+test('verifyAndUpdate copies its inputs once, also if it renews the hash', async () => {
+    const lengths = [1237, 1249, 1259];
+    const [password, secret, associatedData] = lengths.map((length) => Buffer.alloc(length, 'text'));
+    const keys = { secret, associatedData };
+    const stored = await hash(password, { ...SMALL, timeCost: 2, ...keys });
+    const { ArrayBuffer: Usual } = globalThis;
+    for (const running of [{}, { native: false }, { native: false, worker: false }]) {
+        const made = [];
+        globalThis.ArrayBuffer = class extends Usual {
+            constructor(length, ...more) {
+                super(length, ...more);
+                made.push(length);
+            }
+        };
+        const { update } = await verifyAndUpdate(stored, password, { ...SMALL, ...keys, ...running })
+            .finally(() => { globalThis.ArrayBuffer = Usual; });
+        assert.equal(await verify(update, password, keys), true);
+        assert.deepEqual(made.filter((length) => lengths.includes(length)).sort(), lengths, JSON.stringify(running));
+    }
 });
 
 test('by default as many calls compute as fit into processors and memory, and 16 times as many wait', () => {

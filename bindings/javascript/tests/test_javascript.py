@@ -10,7 +10,7 @@ from running import CC, MACHINE, TOP, has_node, in_system, make_system, needs, r
 
 HEADERS, SOURCES = TOP / "bindings/c/include", TOP / "bindings/javascript"
 NODE_API = Path("/usr/include/node/node_api.h")
-pytestmark = [has_node(), pytest.mark.timeout(2400)]
+pytestmark = has_node()
 # The test files for what both engines do, and all those of the package itself.
 BOTH = "vectors", "errors", "inputs", "services", "secrets", "line"
 OWN = *BOTH, "running", "flat"

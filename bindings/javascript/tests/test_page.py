@@ -3,7 +3,7 @@ import pytest
 from running import TOP, has_node, needs, run
 
 MINI_BROWSER = "/usr/lib/x86_64-linux-gnu/webkit2gtk-4.1/MiniBrowser"
-pytestmark = [has_node(), pytest.mark.timeout(2400)]
+pytestmark = has_node()
 
 
 @pytest.mark.parametrize("browser", [

@@ -65,7 +65,7 @@ export function countWorkers() {
 
 /** The output of a Node process with these arguments and variables. */
 export async function outputOf(words, variables = {}) {
-    const how = { cwd: import.meta.dirname, timeout: 600000, env: { ...process.env, ...variables } };
+    const how = { cwd: import.meta.dirname, env: { ...process.env, ...variables } };
     return (await promisify(execFile)(process.execPath, words, how)).stdout;
 }
 
