@@ -5,7 +5,7 @@
 #     version     the version
 #     help        the file help.txt, in which NAME is replaced by that name
 #     prepare     a function that makes the program ready and sets `program` to its file, and `is_known` if the program
-#                 is known to load on this system. `prepare in_c` does so with the program in C
+#                 is known to load on this system
 #
 # `--help`, `--version` and `tune` are done here. All else is passed on, with the standard streams, and the program says
 # which argument is wrong. `new` also gets a random salt, and OWASP's settings if it has none. On a terminal, the script
@@ -26,12 +26,6 @@ least_memory=7168
 
 # Where Linux says how many programs have run at once in the last minute.
 loads=/proc/loadavg
-
-# The builds that have programs, the oldest first, and the CPU flags, as Linux names them, that each needs beyond those
-# of the build before it.
-oldest_build=x86-64-v2
-flags_of_builds='x86-64-v2: cx16 lahf_lm popcnt pni sse4_1 sse4_2 ssse3
-x86-64-v3: abm avx avx2 bmi1 bmi2 f16c fma movbe'
 
 # Makes the program's C library request huge pages, unless the user has set GLIBC_TUNABLES.
 tunables=glibc.malloc.hugetlb=1
@@ -105,10 +99,10 @@ judge() {
     exit "$status"
 }
 
-# Makes the program ready, or that in C: `make_ready [in_c]`. Exits if there is none, or if none can be loaded here.
+# Makes the program ready. Exits if there is none, or if it cannot be loaded here.
 make_ready() {
     is_known=
-    prepare "$@" || exit 70
+    prepare || exit 70
     [ "$is_known" ] || require_loader
     GLIBC_TUNABLES=${GLIBC_TUNABLES-$tunables}
     export GLIBC_TUNABLES
@@ -123,46 +117,6 @@ require_loader() {
         fail 70 "the programs need glibc $least_glibc or newer, which this system does not have"
         ;;
     esac
-}
-
-# ---- the processor
-
-# Sets `builds` to the builds that this processor can run, the newest first, or to nothing if none can run.
-find_builds() {
-    builds=
-    case $(uname -m) in
-    aarch64) builds=aarch64 ;;
-    x86_64) find_builds_of_x86 ;;
-    esac
-}
-
-find_builds_of_x86() {
-    flags=
-    while [ ! "$flags" ] && read -r field line; do
-        case $field in flags*) flags=" ${line#: } " ;; esac
-    done 2>/dev/null </proc/cpuinfo
-    # (if the system does not list the processor's flags, only the oldest build is named)
-    [ "$flags" ] || { builds=$oldest_build && return; }
-    build=
-    for word in $flags_of_builds end:; do
-        case $word in
-        *:) builds=${build:+$build }$builds build=${word%:} ;; # (all flags of the previous build are there)
-        *) has_flag "$word" || return 0 ;;
-        esac
-    done
-}
-
-has_flag() {
-    case $flags in
-    *" $1 "*) ;;
-    *) return 1 ;;
-    esac
-}
-
-# Ends where no build runs here.
-refuse_processor() {
-    fail 70 "this processor is older than $oldest_build, or neither x86-64 nor ARM64, for which the programs are \
-built: see /proc/cpuinfo"
 }
 
 # ---- passwords
@@ -203,9 +157,19 @@ watch_input() {
 }
 
 # Passes to descriptors 3 and 4 as much of standard input as the tool reads. A signal ends `head` and `tee` if the tool
-# stops reading: then it has failed, and says so itself.
+# stops reading: then it has failed, and says so itself. Where /proc is not mounted, no program can open descriptor 3,
+# so the shell writes the input twice. It keeps it in octal, since a variable cannot contain the byte 0.
 pass_on() {
-    { head -c "$most_read" 2>/dev/null || echo '!unread' >&5; } | tee /dev/fd/3 >&4 2>/dev/null || echo '!unread' >&5
+    if [ -e /dev/fd/3 ]; then
+        read_input | tee /dev/fd/3 >&4 2>/dev/null || echo '!unread' >&5
+    else
+        octal=$(read_input | od -An -v -to1 | sed 's/ /\\0/g' | tr -d '\n')
+        { printf %b "$octal" >&4 && printf %b "$octal" >&3; } 2>/dev/null || echo '!unread' >&5
+    fi
+}
+
+read_input() {
+    head -c "$most_read" 2>/dev/null || echo '!unread' >&5
 }
 
 tell_of_end() {
@@ -233,7 +197,7 @@ new_text() {
         [ -n "$password" ] || fail 2 'the password is empty'
         lines=$(printf '%s' "$password" | "$program" new "$@" "$salt") || exit
     else
-        [ -e /dev/fd/0 ] || fail 4 'there is no input'
+        (: 6<&0) 2>/dev/null || fail 4 'there is no input'
         lines=$({ watch_input | "$program" new "$@" "$salt" 5>&-; } 5>&1) || exit
         case $lines in
         '!whole'*) ;;
@@ -269,8 +233,8 @@ tell_of_load() {
 programs a hash takes less time than was measured"
 }
 
-# Prints strong settings whose hash took at most MILLISECONDS, within KIB: `tune MILLISECONDS [KIB]`. The program in C
-# measures them. It prints the passes, the memory and the time.
+# Prints strong settings whose hash took at most MILLISECONDS, within KIB: `tune MILLISECONDS [KIB]`. The program prints
+# the passes, the memory and the time.
 tune() {
     [ $# != 1 ] || set -- "$1" "$tuned_memory"
     { [ $# = 2 ] && is_number "$1" && is_number "$2"; } || {
@@ -279,7 +243,7 @@ tune() {
     }
     [ "$1" -le 60000 ] || fail 2 'tune: at most 60000 milliseconds'
     [ "$2" -ge "$least_memory" ] || fail 2 "tune: less than $least_memory KiB are too little for passwords"
-    make_ready in_c
+    make_ready
     found=$("$program" tune argon2id 19 1 "$2" 1 32 seq "$1" </dev/null)
     status=$?
     case $status in

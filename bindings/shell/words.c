@@ -1,6 +1,5 @@
-/* argon2_tool: the commands of docs/SHELL.md over the library for C. This is the program that is installed on every
- * machine. The proved program of the same name in crates/ prints the same; tests compare the two. Tags and verdicts are
- * the library's; the code here is tested, not proved. */
+/* argon2_tool: the commands of docs/SHELL.md over the library for C. Tags and verdicts are the library's; the code here
+ * is tested, not proved. Tests expect the same answers of it as of the proved program (crates/argon2_program). */
 #define _GNU_SOURCE
 #include <errno.h>
 #include <proved_argon2.h>
@@ -134,7 +133,7 @@ static int is_utf8(const char *word)
     return 1;
 }
 
-/* Finds the command and reads its settings. It reports usage errors in the same words as the proved program. */
+/* Finds the command and reads its settings. Reports what is wrong with the arguments. */
 static int is_command(int count, char **word)
 {
     with.threads = UINT32_MAX; /* one per lane, but at most 16 for an encoded hash */
@@ -264,6 +263,8 @@ int main(int count, char **word)
 {
     const proved_argon2_limits most = proved_argon2_default_limits();
     if (!is_command(count - 1, word + 1)) return USAGE;
+    /* Where the library has no build for this processor, these limits are zeros. */
+    if (most.lanes == 0) return refuse(PROVED_ARGON2_OLD_PROCESSOR);
     char *const last = word[count - 1];
     int status = command->does == REHASH || command->does == TUNE ? TRUE : read_password();
     with.limits = command->is_limited ? &most : NULL;

@@ -1,13 +1,13 @@
 """The tests of the shell's commands share these functions and values."""
 import ctypes
-import subprocess
 
+import patience
 import pytest
 import running
+from argon2.low_level import Type, VerifyMismatchError, verify_secret
 from running import TOP as ROOT
 
-PROGRAM = str(running.built() / running.PROVED[0] / "argon2_program")
-TOOL = str(running.built() / running.PROVED[0] / "argon2_tool")
+TOOL = str(running.built() / running.MACHINE / "argon2_tool")
 LIBRARY = running.built() / running.MACHINE / f"libproved_argon2.so.{running.VERSION}"
 # The command that `each_command` sets: the script that runs the program.
 COMMAND = []
@@ -21,24 +21,26 @@ check and new take at most 2 GiB, 10 passes, 16 lanes and the work of 4 GiB in o
 """
 
 
-@pytest.fixture(scope="module", autouse=True, params=["sh", "bash", "./argon2", "archive"])
-def each_command(request, installed, archive):
-    """The installed program, run by the system's shell and by bash, and the programs of the repository and of an
-    archive of the sources."""
+@pytest.fixture(scope="module", autouse=True, params=["sh", "bash", "./argon2"])
+def each_command(request, installed):
+    """The installed program, run by the system's shell and by bash, and the program of the repository."""
     script = str(installed / "bin/proved-argon2")
-    COMMAND[:] = {"sh": [script], "bash": ["bash", script], "archive": [str(archive / "argon2")]}.get(
-        request.param, [str(ROOT / "argon2")])
+    COMMAND[:] = {"sh": [script], "bash": ["bash", script]}.get(request.param, [str(ROOT / "argon2")])
     piped(["new", *SMALL], b"password")  # (a clone says once which program it runs)
 
 
 def piped(words, stdin=b"", command=None, **more):
     """Returns the status, standard output and standard error of the words."""
-    done = subprocess.run([*(command or COMMAND), *words], input=stdin, capture_output=True, timeout=600, **more)
+    done = patience.run([*(command or COMMAND), *words], input=stdin, capture_output=True, **more)
     return done.returncode, done.stdout, done.stderr
 
 
 def verifies(text, password):
-    return piped(["verify", text.strip()], password, command=[PROGRAM])[0] == 0
+    """Returns libargon2's verdict."""
+    try:
+        return verify_secret(text.strip().encode(), password, Type[text.split("$")[1].removeprefix("argon2").upper()])
+    except VerifyMismatchError:
+        return False
 
 
 class Settings(ctypes.Structure):
