@@ -9,7 +9,8 @@ import pytest
 
 TOP = Path(__file__).resolve().parents[1]
 sys.path += [str(TOP / folder) for folder in (
-    "build", "crates/argon2_vectors", "bindings/c/tests", "bindings/shell/tests", "bindings/tests")]
+    "build", "crates/argon2_vectors", "bindings/c/tests", "bindings/shell/tests", "bindings/tests",
+    "bindings/vectors")]
 import running  # noqa: E402
 
 
@@ -25,16 +26,6 @@ def installed(tmp_path_factory):
     prefix = tmp_path_factory.mktemp("installed") / "a prefix"
     running.run("./install", prefix)
     return prefix
-
-
-@pytest.fixture(scope="session")
-def archive(tmp_path_factory):
-    """Returns an archive of the sources, unpacked: what git packs of the files here."""
-    folder = tmp_path_factory.mktemp("archive")
-    script = 'cp "$(git rev-parse --git-path index)" "$1" && export GIT_INDEX_FILE=$1 && git add --all' \
-             ' && git archive "$(git write-tree)" | tar -xC "$0"'
-    running.run("bash", "-eo", "pipefail", "-c", script, folder, folder.with_suffix(".index"))
-    return folder
 
 
 @pytest.fixture(scope="session")

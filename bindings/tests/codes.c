@@ -185,6 +185,32 @@ proved_argon2_limits proved_argon2_default_limits(void)
     return (proved_argon2_limits){7, 8, 9, 10};
 }
 
+/* The default limits, with the memory of the settings, so that the two differ. */
+proved_argon2_limits proved_argon2_limits_for(const proved_argon2_settings *settings)
+{
+    return (proved_argon2_limits){settings->mem_cost, 8, 9, 10};
+}
+
+/* Writes a text if the answer is NEEDS_REHASH. */
+uint32_t proved_argon2_password_renew(const proved_argon2_options *with, const char *text, size_t text_len, PWD,
+    PIECE(pepper), PIECE(new_pepper), PIECE(ad), char *new_text, size_t new_text_len)
+{
+    take(with);
+    snprintf(passed[COMPUTING], sizeof *passed, "renew %.*s %.*s %.*s %.*s %.*s %u " SETTINGS " %u", SHOWN(text),
+        SHOWN(pwd), SHOWN(pepper), SHOWN(new_pepper), SHOWN(ad), with->limits == NULL ? 0 : with->limits->mem_cost,
+        EACH(with->new_settings), (unsigned)with->new_salt_len);
+    if (answer == PROVED_ARGON2_NEEDS_REHASH) {
+        memset(new_text, 'x', new_text_len);
+        new_text[new_text_len - 1] = 0;
+    }
+    return answer;
+}
+
+uint32_t proved_argon2_hashes_at_once(const proved_argon2_settings *settings, uint64_t bytes)
+{
+    return (uint32_t)(bytes / settings->mem_cost);
+}
+
 /* Writes seven different numbers, even on an error: then nobody may use them as values. */
 uint32_t proved_argon2_read(const char *text, size_t text_len, proved_argon2_stored *stored)
 {

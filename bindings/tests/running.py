@@ -9,6 +9,7 @@ import subprocess
 import sys
 from concurrent.futures import ThreadPoolExecutor
 
+import patience
 import pytest
 
 TOP = pathlib.Path(__file__).resolve().parents[2]
@@ -55,12 +56,11 @@ def needs(*programs):
     return pytest.mark.skipif(bool(lacking), reason=f"there is no {', '.join(lacking)}")
 
 
-def start(*words, env=(), cwd=TOP, timeout=2400, **named):
+def start(*words, env=(), cwd=TOP, **named):
     """Returns a command that has ended, with its output."""
     named = {"stdin": None if "input" in named else subprocess.DEVNULL, "capture_output": True, "text": True, **named}
     without = {name: value for name, value in {**ENVIRONMENT, **dict(env)}.items() if value is not None}
-    return subprocess.run([*map(str, words)], env={name: str(value) for name, value in without.items()}, cwd=cwd,
-                          timeout=timeout, **named)
+    return patience.run([*map(str, words)], env={name: str(value) for name, value in without.items()}, cwd=cwd, **named)
 
 
 def run(*words, **named):
@@ -101,7 +101,7 @@ def make_system(folder, release, *packages):
 @functools.lru_cache(None)
 def built(part=MACHINE):
     """Returns the folder with a linked part, as proved and built here or in release/."""
-    return pathlib.Path(run("build/prepare", part, timeout=4800).strip())
+    return pathlib.Path(run("build/prepare", part).strip())
 
 
 def ahead(request, name, work, at_once=None):

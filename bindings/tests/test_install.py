@@ -211,3 +211,13 @@ def test_an_error_names_the_file_that_cannot_be_linked(built, tmp_path, change, 
         run("ar", "rcs", archive, tmp_path / "argon2_c.o")
     refuses(1, why, "build/link", "x86_64", tmp_path, tmp_path / "made", env={"CC": compiler})
     assert not (tmp_path / "made").exists()
+
+
+@pytest.mark.skipif(MACHINE != "x86_64", reason="that takes x86-64")
+def test_a_distribution_s_flags_are_used(tmp_path):
+    """Link-time optimization is not: the names of its objects cannot be changed."""
+    run("build/link", "x86_64", "release", tmp_path, env={
+        "CPPFLAGS": "-DPLANTED", "CFLAGS": "-g3 -flto", "LDFLAGS": "-Wl,--build-id=0x1234abcd"})
+    for name in f"libproved_argon2.so.{VERSION}", "libargon2.so.1", "argon2_tool", "proved_argon2.node":
+        assert "Build ID: 1234abcd\n" in run("readelf", "-n", tmp_path / "x86_64" / name)
+        assert " PLANTED " in run("readelf", "--debug-dump=macro", tmp_path / "x86_64" / name)

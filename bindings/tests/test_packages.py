@@ -59,7 +59,7 @@ CRATE, NPM = (f'proved-argon2-{VERSION}.{end}' for end in ('crate', 'tgz'))
 JAR, _, DOCUMENTATION = JARS = [f'proved-argon2-{VERSION}{end}.jar' for end in ('', '-sources', '-javadoc')]
 POM = f'proved-argon2-{VERSION}.pom'
 GO, SDIST = f'proved-argon2-go-{VERSION}.zip', f'proved_argon2-{VERSION}.tar.gz'
-SOURCE = f'proved-argon2-{VERSION}.tar.gz'
+SOURCE = f'proved-argon2-{VERSION}-source.tar.gz'
 TRAITS = f'proved-argon2-password-hash-{VERSION}.crate'
 NAMES = [*ASKS, *WHEELS, SDIST, *TARBALLS, CRATE, TRAITS, NPM, GO, *JARS]
 DSC = f'proved-argon2_{VERSION}-1.dsc'
@@ -75,10 +75,9 @@ ZIPS = '.whl', '.zip', '.jar'
 LISTS = {'.deb': ['dpkg-deb', '-c'], **dict.fromkeys(ZIPS, ['zipinfo'])}
 UNPACKS = {'.deb': 'dpkg-deb -x {} {}', **dict.fromkeys(ZIPS, 'unzip -q {} -d {}')}
 ENTRY = re.compile(r'^([-dl])([-rwxst]{9}) +(\S+) .*? (?:\./)?([^ ]+?)(?: -> .*)?$', re.M)
-PROGRAMS = re.compile(r'(^|/)(bin/(proved-)?argon2|argon2_tool|share/proved-argon2/uninstall)$')
+PROGRAMS = re.compile(r'(^|/)(bin/proved-argon2|argon2_tool|share/proved-argon2/uninstall)$')
 OF_ALL = ['README.md', 'SECURITY.md', 'docs/CLAIMS.md', 'docs/USE.md']
-pytestmark = [pytest.mark.timeout(2400),
-              pytest.mark.skipif(os.geteuid() != 0, reason='that takes root, and namespaces')]
+pytestmark = pytest.mark.skipif(os.geteuid() != 0, reason='that takes root, and namespaces')
 
 
 def read(file):
@@ -90,11 +89,13 @@ def copy_tree(folder):
     return shutil.copytree(TOP, folder, symlinks=True, ignore=shutil.ignore_patterns('out', 'target', '.git'))
 
 
-# A repository with one signed commit. The tests of pages, which run by themselves, only say that they were asked.
+# A repository with one signed commit, without what holds only until somebody publishes. The tests of pages, which run
+# by themselves, only say that they were asked.
 TAGGED = f"""cd "$0"; git init -q; git config user.name Signer; git config user.email signer@a.example
+python3 -Bc 'import sys; sys.path[:0] = [".ci/pages"]; import presets; presets.remove_unpublished()'
 gpg --batch --quiet --passphrase '' --quick-gen-key 'Signer <signer@a.example>'
 printf '#!/bin/sh\necho "tests of pages: $*"; [ ! -e out/wrong ]\n' >.ci/quick
-git add --all; git add --force release; git commit -qm 'release: begin'; git tag -s -m 'A version' v{VERSION}"""
+git add --all; git commit -qm 'release: begin'; git tag -s -m 'A version' v{VERSION}"""
 
 
 @pytest.fixture(scope='session')
@@ -175,7 +176,9 @@ UNRELEASED = {
     'a new file': ('git config status.showUntrackedFiles no; touch more', 'a file is not committed'),
     'another DLL': (f'echo >>release/{DLL}; git commit -qam more; git tag -f -s -m more v{VERSION}',
                     f'release/{DLL} is not the file that release/MANIFEST names'),
-    'a wrong page': ('mkdir out; touch out/wrong', 'tests of pages: --documents'),
+    'a wrong page': ('mkdir out; touch out/wrong', 'tests of pages: --pages'),
+    'no publisher': (f'echo "# until" published >>PROJECT; git commit -qam more; git tag -f -s -m more v{VERSION}',
+                     'PROJECT:'),
     'one kind': ('set -- go', '--release makes all kinds'),
     'another release': ('mkdir "$0"; touch "$0/old"', '/made is not empty')}
 
@@ -195,17 +198,16 @@ def test_only_what_a_signed_tag_names_is_released(clone, keys, tmp_path, name):
     assert not [*tmp_path.glob('made/*proved*')]
 
 
-# The grammars of semver.org and, for a version without a tag, of Go's modules.
+# The grammar of semver.org.
 IDENTIFIER = r'(?:0|[1-9]\d*|\d*[a-zA-Z-][\da-zA-Z-]*)'
 SEMVER = re.compile(rf'{re.escape(VERSION)}-{IDENTIFIER}(?:\.{IDENTIFIER})*')
-PSEUDO = re.compile(rf'{re.escape(VERSION)}-([^+]*\.)?0\.\d{{14}}-[\da-f]{{12}}')
 
 
 def versions_in(tree):
     """Returns the versions of what is no release. Each has its registry's form, and is smaller than the release's."""
     kinds = 'source', 'tarball', 'crate', 'npm', 'go', 'wheel', 'sdist', 'debian', 'java'
     found = {kind: run(tree / 'package', '--version', kind).strip() for kind in kinds}
-    assert all(SEMVER.fullmatch(found[kind]) for kind in kinds[:5]) and PSEUDO.fullmatch(found['go'])
+    assert all(SEMVER.fullmatch(found[kind]) for kind in kinds[:5])
     assert Version(found['wheel']) < Version(VERSION) and str(Version(found['wheel'])) == found['wheel']
     run('dpkg', '--compare-versions', f'{found["debian"]}-1', 'lt', f'{VERSION}-1')
     assert found.pop('java') == f'{VERSION}-SNAPSHOT'
@@ -220,7 +222,7 @@ def test_a_version_that_is_no_release_names_its_commit(clone):
     assert all(commit in version for version in (*first.values(), *changed.values()))
     assert [kind for kind in first if changed[kind] == first[kind]] == ['source']  # (which has what is committed)
     shutil.rmtree(clone / '.git')
-    assert all('unknown' in version or '-000000000000' in version for version in versions_in(clone).values())
+    assert all('unknown' in version for version in versions_in(clone).values())
 
 
 # Each kind's packages name their version here, beside the file's name.
@@ -230,15 +232,14 @@ NAMED = {'wheel': 'unzip -p *x86_64.whl "*/METADATA"',
          'debian': 'dpkg-deb -f libproved-argon2-1_*.deb',
          'npm': 'tar -xOf *.tgz package/package.json', 'java': 'jar --describe-module --file *T.jar',
          'go': 'unzip -l *.zip', 'tarball': 'ls proved-*.tar.gz'}
-UNLICENSED = {f'release/{build}/argon2_{name}' for build in machines()['x86_64'].proved for name in ('program', 'tool')}
 
 
 def test_the_archive_of_the_sources_makes_all_other_packages(tagged, packages, tmp_path):
-    """It lacks only the programs that have no licence. The command, and what is installed, run without them."""
+    """It has all files. The command, and what is installed, run from it."""
     run('tar', '-C', tmp_path, '-xzf', packages / SOURCE)
     tree, made = tmp_path / f'proved-argon2-{VERSION}', tmp_path / 'made'
     files = {str(path.relative_to(tree)) for path in tree.rglob('*') if not path.is_dir()}
-    assert {*run('git', 'ls-files', cwd=tagged).splitlines()} - files == UNLICENSED and len(UNLICENSED) == 4
+    assert {*run('git', 'ls-files', cwd=tagged).splitlines()} == files
     first = '\n'.join(re.findall(r'^    (.*\./argon2 .*)$', read(TOP / 'README.md'), re.M))
     came = start('bash', '-euo', 'pipefail', '-c', first, cwd=tree)
     assert came.stdout.strip() == 'true' and f'./argon2 runs release/{MACHINE}/argon2_tool' in came.stderr
@@ -276,10 +277,22 @@ def test_a_jar_contains_the_libraries_whose_compilers_are_there(tmp_path):
     refuses(1, 'gcc-aarch64-linux-gnu', './package', 'java', '--to', tmp_path, env={**path, 'MACHINES': 'aarch64'})
 
 
-def test_a_tarball_is_the_same_with_a_libdir_and_replaces_a_link(packages, tmp_path):
+def test_a_newer_cargo_without_a_registry_is_named_with_the_remedy(tmp_path):
+    """It looks for what the crates depend on, unlike Debian 12's."""
+    fault = 'no matching package named `password-hash` found'
+    (tmp_path / 'cargo').write_text(f"""#!/bin/sh
+[ "$1" != --version ] || exec echo cargo 1.95.0
+echo '  {fault}' >&2; exit 101
+""", encoding='utf-8')
+    (tmp_path / 'cargo').chmod(0o755)
+    refuses(1, f"cargo 1.95.0 cannot pack the crate proved-argon2: {fault}. Use Debian 12's cargo",
+            './package', 'crate', '--to', tmp_path / 'made', env={'CARGO': tmp_path / 'cargo', 'MACHINES': MACHINE})
+
+
+def test_a_tarball_is_the_same_with_a_libdir_and_replaces_a_link(packages, tagged, tmp_path):
     (tmp_path / 'victim').write_text('mine')
     (tmp_path / 'SHA256SUMS').symlink_to('victim')
-    run('./package', 'tarball', '--to', tmp_path, env={'LIBDIR': '/opt/lib', 'CDPATH': '/opt'})
+    run(tagged / 'package', 'tarball', '--to', tmp_path, env={'LIBDIR': '/opt/lib', 'CDPATH': '/opt'})
     sums = {*re.findall('(?m)^[0-9a-f]+', read(tmp_path / 'SHA256SUMS'))}
     assert read(tmp_path / 'victim') == 'mine' and len(sums) == 2 and sums <= {*read(packages / 'SHA256SUMS').split()}
 
@@ -324,13 +337,18 @@ def page_for_go():
 
 
 @needs('go')
-def test_go_fetches_the_same_module_from_a_repository_and_a_proxy(packages, page_for_go, tmp_path):
-    origin, served = tmp_path / 'origin', tmp_path / 'served' / MODULE / '@v'
-    run('bash', '-euc', f'git init -q --bare "$0"; git clone -q "$0" "$1/clone"; cp -R "$2" "$1/clone/release"'
-        f'; cd "$1/clone/release"\n{commands_for("Go")}', origin, tmp_path, packages)
+@pytest.mark.parametrize('is_release', [True, False])
+def test_go_fetches_the_same_module_from_a_repository_and_a_proxy(packages, clone, page_for_go, tmp_path, is_release):
+    origin, served, version = tmp_path / 'origin', tmp_path / 'served' / MODULE / '@v', VERSION
+    if not is_release:
+        run(clone / 'package', 'go', '--to', tmp_path / 'packages')
+        packages, version = tmp_path / 'packages', run(clone / 'package', '--version', 'go').strip()
+    commands = commands_for('Go').replace(VERSION, version)
+    run('bash', '-euc', f'git init -q --bare "$0"; git clone -q "$0" "$1"; cp -R "$2" "$1/release"'
+        f'; cd "$1/release"\n{commands}', origin, tmp_path / 'fetched', packages)
     served.mkdir(parents=True)
     for end in 'info', 'mod', 'zip':
-        shutil.copy(packages / f'proved-argon2-go-{VERSION}.{end}', served / f'v{VERSION}.{end}')
+        shutil.copy(packages / f'proved-argon2-go-{version}.{end}', served / f'v{version}.{end}')
     env, sums = {'GOCACHE': tmp_path / 'cache', 'GOFLAGS': '-mod=mod', 'GONOSUMDB': '*', 'GOTOOLCHAIN': 'local',
                  'HTTP_PROXY': page_for_go, 'HTTPS_PROXY': page_for_go, 'NO_PROXY': None, 'no_proxy': None,
                  'GOINSECURE': MODULE, 'GIT_CONFIG_COUNT': 1, 'GIT_CONFIG_KEY_0': f'url.{origin}.insteadOf',
@@ -341,7 +359,7 @@ def test_go_fetches_the_same_module_from_a_repository_and_a_proxy(packages, page
         (folder / 'main.go').write_text(FIRST_GO, encoding='utf-8')
         (folder / 'go.mod').write_text('module program\n\ngo 1.19\n', encoding='utf-8')
         env.update(GOPROXY=proxy, GOPATH=folder / 'path')
-        run('go', 'get', f'{MODULE}@v{VERSION}', cwd=folder, env=env)
+        run('go', 'get', f'{MODULE}@v{version}', cwd=folder, env=env)
         assert run('go', 'run', '.', cwd=folder, env=env) == 'true <nil>\nfalse <nil>\n'
         sums.add(read(folder / 'go.sum'))
     assert len(sums) == 1
@@ -389,11 +407,9 @@ def test_maven_compiles_a_program(packages, keys, tmp_path, way):
 
 @needs('npm')
 def test_npm_would_publish_the_package_without_a_correction(unpacked, tmp_path):
-    """A publisher takes out the mark that it is private."""
     folder = shutil.copytree(unpacked / NPM / 'package', tmp_path / 'package')
     fields = json.loads(read(folder / 'package.json'))
-    assert fields.pop('private') and {'repository', 'bugs', 'homepage', 'license', 'author'} <= fields.keys()
-    (folder / 'package.json').write_text(json.dumps(fields), encoding='utf-8')
+    assert {'repository', 'bugs', 'homepage', 'license', 'author'} <= fields.keys() - {'private'}
     done = start('npm', 'publish', '--dry-run', '--offline', '--cache', tmp_path / 'cache', cwd=folder)
     warnings = re.findall('npm warn (.*)', done.stderr, re.I)
     assert done.returncode == 0 and not [line for line in warnings if 'be logged in' not in line], done.stderr
@@ -434,7 +450,7 @@ def test_each_file_belongs_to_root_and_has_its_mode(packages, name):
 @pytest.mark.parametrize('machine', machines())
 @pytest.mark.parametrize('file, count', [
     ('libproved_argon2.a', 4), (f'libproved_argon2.so.{VERSION}', 3), ('libargon2.a', 2), ('libargon2.so.1', 2),
-    ('argon2', 1), ('proved_argon2.node', 1)])
+    ('proved_argon2.node', 1)])
 def test_released_files_are_packed_byte_for_byte(unpacked, machine, file, count):
     content = (TOP / 'release' / machine / file).read_bytes()
     assert count == sum(path.read_bytes() == content for path in unpacked.rglob('*')
@@ -442,7 +458,7 @@ def test_released_files_are_packed_byte_for_byte(unpacked, machine, file, count)
 
 
 @pytest.mark.parametrize('name', NAMES)
-def test_each_has_both_licences_and_the_pages_of_its_users(unpacked, name):
+def test_each_has_both_licences_and_the_pages_of_its_users(unpacked, tagged, name):
     papers, = (unpacked / name).glob(PAPERS.get(name, 'usr/share/doc/*'))
     if name in ASKS:
         assert read(papers / 'copyright') == read(TOP / 'debian/copyright')
@@ -452,7 +468,7 @@ def test_each_has_both_licences_and_the_pages_of_its_users(unpacked, name):
         assert read(papers / page) == read(TOP / page)
     own = ASKS[name][1].split() if name in ASKS else ['docs/C.md', 'docs/LIBARGON2.md', 'docs/SHELL.md']
     for page in [] if name in (CRATE, TRAITS, NPM, GO, SDIST, *JARS, *WHEELS) else [*OF_ALL, *own]:
-        kept, ours = (re.sub(r'\]\([^)]*\)', ']', read(at / page)) for at in (papers, TOP))
+        kept, ours = (re.sub(r'\]\([^)]*\)', ']', read(at / page)) for at in (papers, tagged))
         assert kept == ours, page
     pages = [page for form in ('*.md', 'METADATA') for page in (unpacked / name).rglob(form)]
     assert pages and not [f'{page}: {link}' for page in pages for link in re.findall(
@@ -528,8 +544,8 @@ def test_the_spdx_file_lists_what_others_have_written(unpacked, tmp_path):
     names = {system: [linked_by(compiler, tmp_path) for compiler in compilers]
              for system, compilers in COMPILERS.items()}
     found, unknown, seen = {}, set(), set()
-    released = {f'release/{name}' for name in re.findall(r'(?m)^[^#].*  (.*)$', read(TOP / 'release/MANIFEST'))}
-    for path in (*unpacked.rglob('*'), *(TOP / name for name in released - UNLICENSED)):
+    released = re.findall(r'(?m)^[^#].*  (.*)$', read(TOP / 'release/MANIFEST'))
+    for path in (*unpacked.rglob('*'), *(TOP / 'release' / name for name in released)):
         content = path.read_bytes() if path.is_file() and not path.is_symlink() else b''
         if content[:2] != b'MZ' and content[:4] != b'\x7fELF' and content[:8] != b'!<arch>\n':
             continue
@@ -544,10 +560,21 @@ def test_the_spdx_file_lists_what_others_have_written(unpacked, tmp_path):
         assert symbols(path), path
     listed = dict(re.findall(r'^PackageName: (.*)\n(?:.+\n)*?PackageComment: <text>(.*)</text>$',
                              read(TOP / 'proved-argon2.spdx'), re.M))
-    found['javadoc'] = {path.name for path in (unpacked / DOCUMENTATION).rglob('*') if path.suffix in ('.css', '.js')}
     assert len(seen) > 12 and not unknown
     assert found == {owner: {*' '.join(re.findall(r' in: (.*?)\.(?= |$)', text)).split()}
                      for owner, text in listed.items()}
+
+
+def test_the_documentation_for_java_has_nothing_of_the_jdk_beside_its_pages(unpacked):
+    """The JDK's script and style have another licence."""
+    folder = unpacked / DOCUMENTATION
+    others = [path for path in folder.rglob('*') if path.is_file() and path.suffix != '.html'
+              and path.parent.name != 'META-INF']
+    assert {path.name: read(path) for path in others} == {
+        'element-list': 'module:proved.argon2\nproved.argon2\n',
+        'documentation.css': read(TOP / 'bindings/java/documentation.css')}
+    pages = [*folder.rglob('*.html')]
+    assert len(pages) > 12 and not [page for page in pages if re.search('script>|<button|JavaScript', read(page))]
 
 
 @pytest.mark.parametrize('name, packages', [

@@ -17,7 +17,7 @@ pytestmark = needs("node", "wasm2wat")
 @pytest.fixture(scope="module")
 def modules():
     """Returns the folder with both modules, as built here."""
-    run("build/make", "wasm32", timeout=4800)
+    run("build/make", "wasm32")
     return TOP / "bindings/out/wasm32"
 
 
