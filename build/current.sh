@@ -19,9 +19,11 @@ find_sources() {
     done
 }
 
-# The hash of files, and of those in folders, with their names and contents: `sum_files PATH..` leaves it in `sum`.
+# The hash of files, and of those in folders, with their names and contents: `sum_files PATHS..` leaves it in `sum`.
+# Patterns are of files in the repository, whatever the present folder is.
 sum_files() {
-    sum=$(cd "$root" && find "$@" ! -type d -exec sha256sum {} + | LC_ALL=C sort -k 2 | sha256sum) && sum=${sum%% *}
+    # shellcheck disable=SC2048,SC2086 # they are words and patterns
+    sum=$(cd "$root" && find $* ! -type d -exec sha256sum {} + | LC_ALL=C sort -k 2 | sha256sum) && sum=${sum%% *}
 }
 
 # A machine of build/machines.txt, by its name or a build's: `find_machine NAME` leaves its values in `machine`,
@@ -44,7 +46,7 @@ find_machine() {
 
 # The names of all machines, into `machines`.
 find_machines() {
-    machines=$(sed -n 's/^\([^#+ ]*\) .*/\1/p' "$root/build/machines.txt" | tr '\n' ' ')
+    machines=$(awk -v ORS=' ' '/^[^#+ ]/ { print $1 }' "$root/build/machines.txt")
 }
 
 # The release of Debian whose packages link release/, and these packages, in the order in which dpkg-query prints them.
@@ -74,8 +76,7 @@ tracks_nothing_built() {
 # `line_of NAME..` leaves in `line` what a build of crates is made from: the hash of their sources and, if there is a
 # kit, the output of `rt version`.
 line_of() {
-    # shellcheck disable=SC2086 # they are words
-    find_sources "$@" && sum_files $sources || return
+    find_sources "$@" && sum_files "$sources" || return
     line=$sum rt=$(PATH=$PATH:/opt/rattle/bin && command -v rt) || return 0
     rt=$(readlink -f -- "$rt")
     [ ! -e "${rt%/*}/../KIT-ID" ] || line="$sum $(paste -s -d ' ' -- "${rt%/*}/../KIT-ID")"
@@ -109,8 +110,8 @@ is_built() {
 
 # ---- release/
 
-# `others_of FOLDER` leaves in `others` the files from which a folder of release/ is built beside proved crates, by the
-# toolchain alone or by a C compiler too.
+# `others_of FOLDER` leaves in `others` the files, and patterns of files, from which a folder of release/ is built
+# beside proved crates, by the toolchain alone or by a C compiler too.
 others_of() {
     others='build/add_kernel build/link_wasm build/machines.txt bindings/kernels/*.c bindings/wasm/instance.s'
     find_machines
@@ -122,15 +123,12 @@ others_of() {
         ;;
     *) [ "$1" != portable ] || others="$others build/translate bindings/portable/translate.py" ;;
     esac
-    # shellcheck disable=SC2086 # they are words and patterns
-    others=$(cd "$root" && echo $others)
 }
 
 # The hash of everything a folder of release/ is built from: `sum_part FOLDER`.
 sum_part() {
-    find_sources argon2_c argon2_program argon2_tool && others_of "$1" || return
-    # shellcheck disable=SC2086 # they are words
-    sum_files $sources $others
+    find_sources argon2_c && others_of "$1" || return
+    sum_files "$sources $others"
 }
 
 # `is_of_sources FOLDER` fails unless the manifest of release/ says that this folder is of these sources.
@@ -140,37 +138,19 @@ is_of_sources() {
     [ "$(grep "^# sources $1 " "$root/release/MANIFEST" 2>/dev/null)" = "# sources $1 $sum" ]
 }
 
-# The programs of release/ that contain the toolchain's code, which has no licence (NOTICE). .gitattributes leaves them
-# out of an archive of the sources, and .gitignore out of a repository that begins with such an archive.
-unlicensed='x86-64-v[0-9]+/argon2_(program|tool)'
-
-# Fails unless this tree is without these programs: not one is here, and git tracks none.
-lacks_unlicensed() {
-    programs=$(sed -nE "s#^[0-9a-f]+  ($unlicensed)\$#release/\1#p" "$root/release/MANIFEST" 2>/dev/null)
-    [ "$programs" ] || return
-    for absent in $programs; do
-        [ ! -e "$root/$absent" ] && [ ! -L "$root/$absent" ] || return
-    done
-    # shellcheck disable=SC2086 # they are words
-    tracked=$(git -c safe.directory='*' -C "$root" ls-files -- $programs 2>/dev/null) || [ ! -e "$root/.git" ] || return
-    [ -z "$tracked" ]
-}
-
 # `is_listed PART` fails unless a file of release/, or a folder's content, is as the manifest names it. The folder may
 # have no other file.
 is_listed() {
     why="release/MANIFEST names no file of $1"
     listed=$(grep -E "^[^#].*  $1(/|\$)" "$root/release/MANIFEST") || return
-    if lacks_unlicensed; then
-        why="release/$1 is in no archive of the sources: see NOTICE"
-        listed=$(printf '%s\n' "$listed" | grep -vE "  $unlicensed\$") || return
-    fi
-    names=$(printf '%s\n' "$listed" | sed 's/^[^ ]*  //' | LC_ALL=C sort)
+    names=$(sed -nE "s|^[^#].*  ($1(/.*)?)\$|\1|p" "$root/release/MANIFEST" | LC_ALL=C sort)
     found=$(cd "$root/release" && find "$1" ! -type d 2>/dev/null | LC_ALL=C sort)
-    other=$(printf '%s\n' "$names" "$found" | LC_ALL=C sort | uniq -u | grep -m 1 .)
-    why="release/$other is not the file that release/MANIFEST names: it is not there"
-    case $found in *"$other"*) why="release/MANIFEST does not name $other" ;; esac
-    [ "$names" = "$found" ] || return
+    if [ "$names" != "$found" ]; then
+        other=$(printf '%s\n' "$names" "$found" | LC_ALL=C sort | uniq -u | grep -m 1 .)
+        why="release/$other is not the file that release/MANIFEST names: it is not there"
+        case $found in *"$other"*) why="release/MANIFEST does not name $other" ;; esac
+        return 1
+    fi
     why=$(cd "$root/release" && printf '%s\n' "$listed" | LC_ALL=C sha256sum --check --strict --quiet 2>&1) && return
     why="release/${why%%: FAILED*} is not the file that release/MANIFEST names"
     return 1
