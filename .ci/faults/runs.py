@@ -14,14 +14,14 @@ from concurrent.futures import ThreadPoolExecutor
 from pathlib import Path
 from typing import NamedTuple
 
+import patience
 from argon2.low_level import Type, hash_secret
-from running import ENVIRONMENT, build_preloaded
+from running import ENVIRONMENT, MACHINE, build_preloaded, built
 from shared import TOP
 from toolchain import is_current
 
 PASSWORD = b'password'
 PROCESSORS = sorted(os.sched_getaffinity(0))
-SECONDS = 600  # after which a run counts as hanging
 TRIES = 100  # of a start, before it counts as refused (`TRIES` of argon2_fill/src/workers/crew.rt)
 SLICES = 4  # of a pass
 NOTE = re.compile(r'^(request|freed|start|refused|denied|late|VmHWM:.*)\n', re.M)
@@ -36,7 +36,10 @@ FAULTS = str(build_preloaded(TOP / '.ci/faults/faults.c', FOLDER.name))
 
 @functools.cache
 def copy_of(name):
-    """Returns a copy of a crate's binary that the proofs left. It has to be built from these sources."""
+    """Returns a copy of a crate's binary that the proofs left, which has to be built from these sources, or of the
+    command's program in C."""
+    if name == 'argon2_tool':
+        return Path(shutil.copy(built() / MACHINE / name, FOLDER.name))
     crate = name.removesuffix('_tests')
     binary = TOP / f'crates/{crate}/out/{name}'
     assert is_current(crate, binary, says_why=True), f'{binary.name} was built from other sources'
@@ -70,7 +73,7 @@ def run(words, is_over_faults=True, meanwhile=lambda process: None, input_bytes=
     with subprocess.Popen(words, env=env, **pipes, **(how or {})) as process, ThreadPoolExecutor(1) as beside:
         seen = beside.submit(meanwhile, process)
         try:
-            said = process.communicate(input_bytes, timeout=SECONDS)
+            said = patience.communicate(process, input_bytes)
         finally:
             process.kill()
         return Came(process.returncode, *said, seen.result())

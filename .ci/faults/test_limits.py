@@ -12,7 +12,7 @@ from collections import Counter
 from itertools import groupby
 
 import pytest
-from runs import NO_MEMORY, NO_WORKER, PROCESSORS, SECONDS, SLICES, TRIES, VALUE, Hash, copy_of, run
+from runs import NO_MEMORY, NO_WORKER, PROCESSORS, SLICES, TRIES, VALUE, Hash, copy_of, run
 
 HASHES, FEW, LEAST = 200, 20, 198  # hashes; hashes with one thread fewer; how many of the 200 must succeed
 PASSES, LATE = 3, 1000  # microseconds
@@ -86,9 +86,9 @@ def test_an_encoded_hash_of_4_tib_is_refused_before_memory_is_touched(lanes):
 def stop(process):
     """Stops a process up to four times, each time a moment after it is seen with workers. Returns the most threads it
     then had."""
-    tasks, limit, threads = f'/proc/{process.pid}/task', time.monotonic() + SECONDS, [0]
+    tasks, threads = f'/proc/{process.pid}/task', [0]
     with contextlib.suppress(OSError):  # it may end meanwhile
-        while len(threads) <= STOPS and process.poll() is None and time.monotonic() < limit:
+        while len(threads) <= STOPS and process.poll() is None:
             if len(os.listdir(tasks)) > 1:
                 time.sleep(random.random() * MOMENT)
                 process.send_signal(signal.SIGSTOP)

@@ -1,8 +1,8 @@
-"""Runs the program and the shell's tool over real pipes: each exit status, what is written for it, words that no shell
-would pass, words of many lengths, and inputs that are longer than any password. The proofs do not cover the bytes of
-standard streams or the arguments of processes; rows of argon2_vectors say which words a command takes. Rattle's calls
-return libargon2's hashes, and no resource error, since nothing is denied. Hashes are drawn from SEED of the environment
-or from a printed seed.
+"""Runs the proved program, and the program in C that is installed, over real pipes: each exit status, what is written
+for it, words that no shell would pass, words of many lengths, and inputs that are longer than any password. Both have
+to give the same answers. The proofs do not cover the bytes of standard streams or the arguments of processes; rows of
+argon2_vectors say which words a command takes. Rattle's calls return libargon2's hashes, and no resource error, since
+nothing is denied. Hashes are drawn from SEED of the environment or from a printed seed.
 """
 
 import re
@@ -13,14 +13,17 @@ import vectors
 from runs import SEED, Hash, copy_of, run
 from shared import TOP, output_of
 
-DRAWS, BINARIES = 1000, ('argon2_program', 'argon2_tool')
-# The longest password that any call accepts, and that the tool takes; and the address space that is left beside it.
-LONGEST, LONGEST_OF_TOOL, BESIDE = (1 << 32) - 1, 1 << 16, 16 << 20
+DRAWS = 1000
+BINARIES = PROVED, IN_C = 'argon2_program', 'argon2_tool'
+# The longest password that any call accepts, and that `new` and `check` take; and the address space that is left
+# beside it.
+LONGEST, LONGEST_LIMITED, BESIDE = (1 << 32) - 1, 1 << 16, 16 << 20
 # The result of a run: its status, and what it writes to output and errors.
 TRUE, FALSE, USAGE, INPUT = (0, 'true\n', ''), (1, 'false\n', ''), (3, '', 'usage\n'), (4, '', 'input\n')
 ABOVE, TOO_LONG = (5, '', 'The encoded hash is above the limits\n'), (2, '', 'Password is too long\n')
 NO_TEXT, SHORT_SALT = (2, '', 'Decoding failed\n'), (2, '', 'Salt is too short\n')
-# The tool adds these words to some lines.
+NO_ROOM = (2, '', 'Out of memory\n')
+# The program in C adds these words to some lines.
 ADDED = re.compile(
     rf'(?<=^{USAGE[2]})(.*see --help|.*an argument is not UTF-8)\n$|(?<=^{NO_TEXT[2]}).*quotes\n$'
     rf'|(?<=^{ABOVE[2]}).* at most .*\n$')
@@ -34,8 +37,8 @@ COSTLY = [['check', '$argon2id$v=19$m=8,t=1000,p=1$$c29tZWhhc2g'], ['new', *'arg
 
 def ends():
     """Yields each result, the arguments of the runs that come to it, and how they are run. Statuses 0 and 1: only the
-    answer is written. Status 2: only the refusal. Status 5: above the tool's limits, whatever else is wrong. Status 3:
-    arguments that are no command, up to 20,000."""
+    answer is written. Status 2: only the refusal. Status 5: above the limits of `check`, whatever else is wrong. Status
+    3: arguments that are no command, up to 20,000."""
     yield (0, TWO.output(), ''), [HASH, NEW]
     yield (0, NO_WORD.output(), ''), [['new', *NO_WORD.settings(), NO_WORD.salt.hex()]]
     yield TRUE, [VERIFY, CHECK, [*REHASH[:3], '3', *REHASH[4:]]]
@@ -48,11 +51,14 @@ def ends():
     yield USAGE, [[], ['verify'], [' '], [*HASH, 'more'], [*VERIFY, ''], ['word'] * 20000, [*VERIFY, *['word'] * 20000],
                   [b'verify', b'\xff'], [*HASH, b'\xc3('], ['check'], NEW[:-1], [b'check', b'\xff']]
     # An input longer than any password is not read completely: the address space leaves little room beside the longest
-    # password, so a program that read on would lack memory.
-    for space, every in ((LONGEST + BESIDE, [HASH, VERIFY]), (BESIDE, [NEW, CHECK])):
-        yield TOO_LONG, every, {'by': f'exec prlimit --as={space} "$0" "$@" </dev/zero'}
-    yield FALSE, [CHECK], {'input_bytes': b'x' * LONGEST_OF_TOOL}
-    yield TOO_LONG, [CHECK, ['check', 'x']], {'input_bytes': b'x' * (LONGEST_OF_TOOL + 1)}
+    # password, so a program that read on would lack memory. The program in C also needs room for the block from which
+    # it moves a password to one of twice the size.
+    for expected, every, space, *of in (
+            (TOO_LONG, [HASH, VERIFY], LONGEST, PROVED), (NO_ROOM, [HASH, VERIFY], LONGEST, IN_C),
+            (TOO_LONG, [HASH, VERIFY], LONGEST // 2 * 3, IN_C), (TOO_LONG, [NEW, CHECK], 0, IN_C)):
+        yield expected, every, {'by': f'exec prlimit --as={space + BESIDE} "$0" "$@" </dev/zero', 'of': of}
+    yield FALSE, [CHECK], {'input_bytes': b'x' * LONGEST_LIMITED}
+    yield TOO_LONG, [CHECK, ['check', 'x']], {'input_bytes': b'x' * (LONGEST_LIMITED + 1)}
     # Status 4: the input cannot be read, or the output cannot be written. A failure to write errors changes no status.
     for expected, every in (INPUT, [VERIFY, *COSTLY]), (USAGE, [['verify'], [*NEW[:-1], '0']]), (FALSE, [REHASH]):
         yield expected, every, {'by': 'exec "$0" "$@" <.'}
@@ -63,16 +69,19 @@ def ends():
 
 
 def rows():
-    """Yields each row's binary, its words, how it is run, and what it comes to."""
+    """Yields each row's binary, its words, how it is run, and what it comes to. Only the program in C has `new` and
+    `check`."""
     for expected, every, *how in ends():
-        yield from ((name, words, dict(*how), expected) for words in every for name in BINARIES
-                    if name == 'argon2_tool' or words[:1] not in (['new'], ['check'], [b'check']))
+        how = dict(*how)
+        binaries = how.pop('of', BINARIES)
+        yield from ((name, words, how, expected) for words in every for name in binaries
+                    if name == IN_C or words[:1] not in (['new'], ['check'], [b'check']))
 
 
 def come_to(name, words, by=None, **how):
-    """Returns the result of a run, without what the tool adds to a line."""
+    """Returns the result of a run, without what the program in C adds to a line."""
     came = run([*(['bash', '-c', by] if by else []), copy_of(name), *words], False, **how)
-    return came.status, came.output, ADDED.sub('', came.errors) if name == 'argon2_tool' else came.errors
+    return came.status, came.output, ADDED.sub('', came.errors) if name == IN_C else came.errors
 
 
 @pytest.mark.parametrize('name, words, how, expected', rows(), ids=lambda value: f'{value!r:.60}')

@@ -1,4 +1,4 @@
-"""Refuses each request for memory and each start of a worker in turn, in the tests and the programs that the proofs
+"""Refuses each request for memory and each start of a worker in turn, in the tests and the program that the proofs
 leave: a sweep for each label, which is that of one of RUNS, or the name of a test without `_denied_in_turn`. A start is
 refused at all of its tries and, in another run, at all but the last: in that run the result has to be unchanged.
 """
@@ -10,15 +10,12 @@ import pytest
 from runs import NO_MEMORY, NO_WORKER, PROCESSORS, TRIES, VALUE, Hash, copy_of, run
 from running import ahead
 from shared import TOP
-from vectors import LANES
 
 AT_ONCE = 4 * len(PROCESSORS)  # a start that is refused sleeps between its tries
 IN_TURN = '_denied_in_turn'  # ends the names of tests that are swept
 ONE, TWO, MANY = (Hash('argon2i', 19, 2, max(256, 8 * p), p, 32) for p in (1, 2, 16))
-# Above the limits, in a string that is much longer than those of other tests (an argument has at most 128 KiB).
-MORE = MANY._replace(lanes=LANES + 1, length=90_000)
 TRUE, FALSE = (0, 'true\n'), (1, 'false\n')
-# Runs of the program and its tool: the label, the expected result, and the words.
+# Runs of the program: the label, the expected result, and the words.
 RUNS = (
     ('program_hash_by_workers', (0, TWO.output()), TWO.words()),
     ('program_hash_in_one_thread', (0, ONE.output()), ONE._replace(most=0).words()),
@@ -27,15 +24,6 @@ RUNS = (
     ('program_verify_of_another', FALSE, ['verify', ONE.text().replace('v=19', 'v=16')]),
     ('program_rehash', TRUE, ['rehash', *ONE._replace(passes=3).settings()[:-1], ONE.text()]),
     ('program_no_rehash', FALSE, ['rehash', *ONE.settings()[:-1], ONE.text()]),
-    ('tool_new', (0, ONE.output()), ['new', *ONE.settings(), ONE.salt.hex()]),
-    ('tool_check', TRUE, ['check', MANY.text()]),
-    ('tool_check_of_no_text',
-     (2, '', 'Decoding failed\nan encoded hash begins with $argon2, and needs single quotes\n'),
-     ['check', f'{MANY.text()}=']),
-    ('tool_check_of_more_lanes',
-     (5, '', 'The encoded hash is above the limits\ncheck and new take at most '
-             '2 GiB, 10 passes, 16 lanes and the work of 4 GiB in one pass\n'),
-     ['check', MORE.text()]),
 )
 
 
@@ -55,7 +43,7 @@ STARTS = {label: starts for starts, patterns in (
      'verify_raw_by_two_workers'),
     (2 * 4 * 3 * 4, '{hash,verify}_{raw,encoded}_in_twice'),
     (4 * 1 * 40, 'hash_raw_by_forty_workers'),
-    (4 * 2 * 16, 'verify_encoded{,_of_another_password,_ext_of_20_lanes} program_verify tool_check'),
+    (4 * 2 * 16, 'verify_encoded{,_of_another_password,_ext_of_20_lanes} program_verify'),
     (4 * 2 * 2, 'program_hash_by_workers'),
     (4, 'fill_slice'),
 ) for label in labels_of(patterns)}
@@ -80,7 +68,7 @@ def sweeps():
     names = [(binary, name) for binary in binaries
              for name in re.findall(rf'^(.*{IN_TURN}): test$', run([binary, '--list']).output, re.M)]
     return [*((name.rpartition('::')[2].removesuffix(IN_TURN), [binary, name], None) for binary, name in names),
-            *((label, [copy_of(f'argon2_{label.partition("_")[0]}'), *words], end) for label, end, words in RUNS)]
+            *((label, [copy_of('argon2_program'), *words], end) for label, end, words in RUNS)]
 
 
 def end_of(came, expected):

@@ -1,6 +1,5 @@
 """The build sees whether a file is made from the present sources, and reads no file that is none of them."""
 
-import hashlib
 import shutil
 
 import pytest
@@ -24,32 +23,6 @@ def test_a_file_is_current_only_with_its_sources_and_its_bytes(tmp_path, file, t
     assert run('sh', '-c', f'{functions} line_of one && note_built one "$line" $root/made').returncode == 0
     (tmp_path / file).write_text(text, encoding='utf-8')
     assert run('sh', '-c', f'{functions} is_built one $root/made').returncode == status
-
-
-SUM = hashlib.sha256(b'built').hexdigest()
-PROGRAMS, OTHER = ('x86-64-v2/argon2_program', 'x86-64-v2/argon2_tool'), 'x86-64-v2/libargon2_c.a'
-FILES = *PROGRAMS, OTHER, 'x86-64-v2/kept'
-
-
-@pytest.mark.parametrize('absent, forged, tracked, is_well', [
-    (PROGRAMS, None, OTHER, True), ((), None, '.', True), (PROGRAMS, None, '.', False),
-    (PROGRAMS[:1], None, OTHER, False), ((*PROGRAMS, OTHER), None, OTHER, False),
-    (PROGRAMS[:1], PROGRAMS[1], OTHER, False), (PROGRAMS, OTHER, OTHER, False)])
-def test_only_an_archive_lacks_files_and_only_those_without_a_licence(tmp_path, absent, forged, tracked, is_well):
-    """In a repository that begins with an archive, git tracks none of them. A file is kept, since an empty list is
-    rejected by itself."""
-    release = tmp_path / 'release'
-    (release / OTHER).parent.mkdir(parents=True)
-    for name in FILES:
-        (release / name).write_text('built', encoding='utf-8')
-    (release / 'MANIFEST').write_text(''.join(f'{SUM}  {name}\n' for name in FILES), encoding='utf-8')
-    run('bash', '-ec', f'git init -q ..; git add {tracked}', cwd=release)
-    for name in absent:
-        (release / name).unlink()
-    if forged:
-        (release / forged).write_text('forged', encoding='utf-8')
-    came = run('sh', '-c', f'root={tmp_path}; . build/current.sh; is_listed x86-64-v2 || {{ echo "$why"; exit 1; }}')
-    assert (came.returncode == 0) == is_well and ('is not the file that' in came.stdout) != is_well, came.stdout
 
 
 def test_a_tracked_file_in_a_folder_of_built_files_is_rejected(tmp_path):

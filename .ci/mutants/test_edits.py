@@ -1,4 +1,4 @@
-"""Has `.ci/mutants/edits` judge edits of each kind, right and wrong, in small crates (tests.txt)."""
+"""Has `.ci/mutants/edits` judge wrong edits of each kind, and three right ones, in small crates (tests.txt)."""
 
 import re
 import shutil

@@ -25,8 +25,7 @@ NEWEST = machines()['x86_64'].proved[-1]
 PROGRAM = 'The program'
 BUILT = {'The archive for C': ('argon2_c', f'{NEWEST}/libargon2_c.a'),
          'The WebAssembly modules': ('argon2_c', 'wasm64-unknown-unknown/libargon2_c.a'),
-         PROGRAM: ('argon2_program', f'{NEWEST}/argon2_program'),
-         "The shell's tool": ('argon2_tool', f'{NEWEST}/argon2_tool')}
+         PROGRAM: ('argon2_program', f'{NEWEST}/argon2_program')}
 # The crate that rests on no C function, and calls only those that the compiler inserts for copies and zeros.
 WITHOUT_AXIOMS, OF_THE_COMPILER = 'argon2_c', {'memcpy', 'memmove', 'memset'}
 

@@ -1,16 +1,24 @@
 """Writes facts that several files repeat to the places of presets.txt, or checks that these have them, and names all
-stale places at once. It writes version (VERSION) and publisher (PROJECT) to all files."""
+stale places at once. It writes version (VERSION) and publisher (PROJECT) to all files. Once PROJECT has no placeholder
+any more, it removes what holds only until somebody publishes."""
 
 import re
 import sys
 import textwrap
 
 from common import TOP, fill, lines, read, require, run, write
+from parts import CLOSES, OPENS
 from machines import flags_of_builds, machines
 
 TABLE, ERRORS = TOP / '.ci/pages/presets.txt', TOP / 'crates/argon2_c/errors.txt'
 PRESET = re.compile(r"/// (?P<what>.*?): Argon2.*\n(?: +///.*\n)* +pub fn (?P<name>\w+)\(\) -> Config<'a>\n"
                     r' +ensures \{ IsPreset (?P<variant>\w+) (?P<m>\d+) (?P<t>\d+) result \}')
+NUMBERS = 'one two three four five six seven eight nine ten'
+# What holds only until somebody publishes: whole lines between two comments, words between two comments of a page, and
+# npm's mark that a package is not uploaded, since JSON has no comments.
+BLOCK = rf'{OPENS}until published{CLOSES}\n(?:.*\n)*?{OPENS}end{CLOSES}\n'
+UNPUBLISHED = re.compile(rf'(?<=\n\n){BLOCK}\n|^{BLOCK}|<!-- until published -->(?:.|\n)*?<!-- end -->|'
+                         r'^ *"private": true,\n', re.M)
 # Files where an older version or publisher may stand, and definitions, where such a number means something else.
 BY_HAND = ':!.ci', ':!release', ':!crates', ':!CHANGELOG.md', ':!debian/changelog', ':!debian/*.symbols'
 
@@ -38,6 +46,13 @@ def default_limits():
     return {**most, **more, 'size': size_of(m), 'work': size_of(w)}
 
 
+def kept_buffers():
+    """<n> is how many buffers a handle has at most. One that is idle for <s> seconds, in words <idle>, is freed."""
+    n = int(re.search(r'MAX_BUFFERS (\d+)$', read('bindings/c/include/proved_argon2_service.h'), re.M)[1])
+    s = int(re.search(r'LONGEST_IDLE \((\d+) \* 1000 \* MILL', read('bindings/c/src/proved_argon2_buffers.c'))[1])
+    return {'n': n, 'most': f'{n:,}', 's': s, 'idle': dict(enumerate(NUMBERS.split(), 1)).get(s, s)}
+
+
 def errors(first, end):
     for n, name, message, words in (line.split(' | ', 3) for line in lines(ERRORS)):
         if first <= int(n) < end:
@@ -62,8 +77,8 @@ def facts():
     return {
         'original': [original], 'presets': others, 'exports': [{'names': names.replace('\n', '\n    ')}],
         'errors': errors(0, 64), 'errors of C': errors(64, 128), 'errors of the driver': errors(128, 256),
-        'limits': [default_limits()], 'threads': [{'n': workers}],
-        'builds': x86, 'builds for ARM64': arm, 'programs': [build for build in x86 if not build['open']],
+        'limits': [default_limits()], 'kept buffers': [kept_buffers()], 'threads': [{'n': workers}],
+        'builds': x86, 'builds for ARM64': arm,
         'project': [{**project, 'version': read('VERSION').strip()}],
     }
 
@@ -89,21 +104,31 @@ def missing(file, items, mark, form):
     return []
 
 
-def forms_of(version, publisher, contact, address):
-    """Returns version and publisher as files have them. Java's group is the address from behind."""
-    path = address.partition('://')[2]
-    return version, publisher, contact, path, '.'.join(reversed(path.partition('/')[0].split('.')))
+def change_all(word, change):
+    """Changes the text of each file that has a word."""
+    for file in run('git', 'grep', '--untracked', '-lIF', '-e', word, '--', *BY_HAND).stdout.splitlines():
+        write(file, change(read(file)))
+
+
+def remove_unpublished():
+    """Removes what holds only until somebody publishes."""
+    for word in 'until published', '"private": true':
+        change_all(word, lambda text: UNPUBLISHED.sub('', text))
 
 
 def write_project(project):
-    """Replaces version and publisher in all files. A header and debian/control have those of the last time."""
+    """Replaces version and publisher in all files. A header, debian/control and pom.xml have those of the last time."""
     version, = re.findall('LIBRARY_VERSION "(.*)"', read('bindings/c/include/proved_argon2.h'))
     control, = re.findall(r'^Maintainer: (.*) <(.*)>\nHomepage: (.*)$', read('debian/control'), re.M)
-    current = forms_of(*(project[name] for name in ('version', 'Publisher', 'Contact', 'Address')))
-    for old, new in zip(forms_of(version, *control), current):
-        found = run('git', 'grep', '--untracked', '-lIF', '-e', old, '--', *BY_HAND).stdout if old != new else ''
-        for file in found.splitlines():
-            write(file, re.sub(rf'(?<!\d){re.escape(old)}(?!\d)', lambda _, new=new: new, read(file)))
+    group, = re.findall('<groupId>(.*)</groupId>', read('bindings/java/pom.xml'))
+    current = [project[name] for name in ('version', 'Publisher', 'Contact', 'Address', 'Group')]
+    for old, new in zip([version, *control, group], current):
+        old, new = (text.removeprefix('https://') for text in (old, new))
+        if old != new:
+            change_all(old, lambda text, old=old, new=new: re.sub(
+                rf'(?<!\d){re.escape(old)}(?!\d)', lambda _: new, text))
+    if not re.search(r'\.example(/|$)|^example\.', '\n'.join(current), re.M):
+        remove_unpublished()
 
 
 def write_all():

@@ -1,9 +1,10 @@
 """Sources follow the rules for layout, names and comments, as the tools of each language judge."""
 
 import re
+from pathlib import Path
 
 import pytest
-from common import TOP, Copy, files, read, run
+from common import TOP, Copy, files, output_of, read, run
 
 LONGEST = 120
 # A language: how its files' names end or first lines begin, and what judges them.
@@ -33,10 +34,11 @@ def test_files_are_laid_out(language, needs):
 
 
 def test_each_file_of_tests_runs_in_ci():
-    """`.ci/tests.txt` lists what CTest runs in CI. Tests of C and Python run the others."""
+    """`.ci/tests.txt` lists what CTest runs in CI, with the steps of ./check. Tests of C and Python run the others."""
     run_by_others = 'bindings/python/tests/', 'bindings/c/tests/test_library.py'
     tests = [name for name in files('**/test_*.py') if not name.startswith(run_by_others)]
-    listed = re.findall(r'^\S+', read('.ci/tests.txt'), re.M)
+    steps = re.findall(r'''files=f?["'](\S+?)[ "']''', read('check'))
+    listed = re.findall(r'^\S+', read('.ci/tests.txt'), re.M) + steps
     assert tests and not {*tests}.difference(listed)
 
 
@@ -57,19 +59,42 @@ def test_each_character_can_be_seen():
     assert came.returncode == 1, came.stdout
 
 
-def test_the_texts_of_both_licences_are_the_same_wherever_they_are():
-    mit, apache = (read(f'LICENSES/{name}.txt') for name in ('MIT', 'Apache-2.0'))
+def test_the_texts_of_the_licences_are_the_same_wherever_they_are():
+    mit, apache, zope = (read(f'LICENSES/{name}.txt') for name in ('MIT', 'Apache-2.0', 'ZPL-2.1'))
     of_debian = re.sub(r'^ \.?', '', read('debian/copyright'), flags=re.M)
     assert mit in read('LICENSE') and apache in read('LICENSE') and mit[mit.index('Permission'):] in of_debian
+    assert zope in re.sub('^    ', '', read('NOTICE'), flags=re.M)
 
 
-def test_each_file_of_an_archive_of_the_sources_has_a_licence(tmp_path, needs):
-    needs('reuse')
-    holders = [re.findall(r'^ .*\d{4} .*|^Copyright: .*', read(name), re.M)
-               for name in ('.reuse/dep5', 'debian/copyright')]
-    assert holders[0] == holders[1] != []
+@pytest.fixture
+def archive(tmp_path):
+    """Returns the folder of an archive of the sources."""
     copy = Copy(tmp_path)
     copy.run('git', 'archive', '--prefix=archive/', '--output=archive.tar', copy.run('git', 'write-tree').strip())
     copy.run('tar', '-xf', 'archive.tar')
-    came = run('reuse', '--root', copy.top / 'archive', 'lint')
+    return copy.top / 'archive'
+
+
+def test_each_file_has_a_licence(archive, needs):
+    needs('reuse')
+    holders = [re.findall(r'^ .*\d{4} .*|^Copyright: .*', read(name), re.M)[:2]
+               for name in ('.reuse/dep5', 'debian/copyright')]
+    assert holders[0] == holders[1] != []
+    came = run('reuse', '--root', archive, 'lint')
     assert came.returncode == 0, came.stdout
+
+
+def test_each_file_has_the_licences_that_the_spdx_file_says(archive, needs):
+    """These are ours and, for a built file in which a part of another project is, also those of that part."""
+    needs('reuse')
+    ours, *others = (
+        ({*re.split(' (?:AND|OR|WITH) ', re.search('Concluded: (.*)', part)[1])},
+         {*' '.join(re.findall(r' in: (.*?)\.[ <]', part)).split()})
+        for part in read('proved-argon2.spdx').split('PackageName: ')[1:])
+    listed = output_of('reuse', '--root', archive, 'spdx')
+    found = {name: {*re.findall('^LicenseInfoInFile: (.*)', rest, re.M)}
+             for name, rest in re.findall(r'^FileName: \./(.*)\n((?:.+\n)*)', listed, re.M)}
+    of_others = {name: [licences for licences, within in others if Path(name).name in within]
+                 for name in found if name.startswith('release/')}
+    assert len({*map(frozenset, found.values())}) == 3
+    assert found == {name: ours[0].union(*of_others.get(name, [])) for name in found}

@@ -40,4 +40,4 @@ def test_the_library_has_code_of_our_crates_and_of_those_that_the_spdx_file_list
     others = {name for name in functions if name.partition('::')[0] not in ours}
     assert others <= {'core::hint::spin_loop', 'std::hint::spin_loop'}
     # The others belong to tools; test_packages.py compares them with what is packed.
-    assert listed == {'proved-argon2', 'glibc', 'libgcc', 'mingw-w64', 'javadoc'}
+    assert listed == {'proved-argon2', 'glibc', 'libgcc', 'mingw-w64'}

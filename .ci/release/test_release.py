@@ -1,6 +1,6 @@
 """Compares release/ with what is built here from these sources (build/release), and verifies strings by its programs.
-In a copy of this repository, without the toolchain, `./argon2` and an installed program use the right build for each
-processor. They name a changed or forged file, other sources and another machine, and install nothing."""
+In a copy of this repository, without the toolchain, `./argon2` and an installed program start. They name a changed or
+forged file, other sources and another machine, and install nothing."""
 
 import hashlib
 import os
@@ -18,13 +18,11 @@ pytestmark = pytest.mark.timeout(5400)
 needs_root = pytest.mark.skipif(os.geteuid() != 0, reason='that takes root, and namespaces')
 RELEASE = TOP / 'release'
 FILES = re.findall(r'(?m)^[0-9a-f]{64}  (.+)$', (RELEASE / 'MANIFEST').read_text(encoding='utf-8'))
-TOOL, ARCHIVE, SHARED = 'x86-64-v3/argon2_tool', 'x86_64/libproved_argon2.a', f'x86_64/libproved_argon2.so.{VERSION}'
+TOOL, ARCHIVE, SHARED = 'x86_64/argon2_tool', 'x86_64/libproved_argon2.a', f'x86_64/libproved_argon2.so.{VERSION}'
 WORDS = 'hash argon2d 19 2 256 2 32 par somesalt'.split()
 TAG = '7b69c92d7c3889aad1281dbc8baefc12cc37c80f1c75e33ef2c2d40c28ebc573'  # libargon2's, of `password`
 NOTICE = 'proved and built elsewhere, from exactly these sources'
 HIDES = '[[ ! -d /opt/rattle ]] || mount -t tmpfs none /opt/rattle; ! PATH=$PATH:/opt/rattle/bin command -v rt; "$@"'
-CPUINFO = 'mount --bind "$1" /proc/cpuinfo; shift; exec "$@"'
-OLD, NEW = 'cx16 lahf_lm popcnt pni sse4_1 sse4_2 ssse3'.split(), 'avx avx2 bmi1 bmi2 f16c fma abm movbe'.split()
 
 
 # ---- what is compared
@@ -41,10 +39,12 @@ def test_release_is_what_is_built_here_and_has_each_machine_and_build(compared):
 
 
 @pytest.mark.parametrize('cpu', map(runs_here, PROVED))
-def test_the_program_verifies_the_outside_strings(compared, cpu):
+def test_the_proved_program_verifies_the_outside_strings(compared, cpu):
+    program = f'{cpu}/argon2_program'
+    output_of('build/prove', program)
     for line in (TOP / 'bindings/vectors/texts.txt').read_text(encoding='utf-8').splitlines():
         text, answer = line.split('\t')
-        came = run(RELEASE / cpu / 'argon2_program', 'verify', text, input='password').stdout
+        came = run(TOP / 'bindings/out' / program, 'verify', text, input='password').stdout
         assert came == answer.removeprefix('ERR ') + '\n', text
 
 
@@ -60,34 +60,20 @@ def in_copy(copy, *words, **how):
     return run(*in_namespace(HIDES, *words), cwd=copy, **how)
 
 
-def on_processor(launcher, flags, tmp_path, *before):
-    """Runs a launcher where /proc/cpuinfo names a processor with these flags."""
-    (tmp_path / 'cpuinfo').write_text(f'processor\t: 0\nflags\t\t: fpu {" ".join(flags)}\n', encoding='utf-8')
-    return run(*in_namespace(CPUINFO, tmp_path / 'cpuinfo', *before, launcher, *WORDS), input='password')
-
-
 @needs_root
-def test_launchers_take_the_build_for_the_processor(copy, tmp_path):
-    """They start within seconds, and say once where the build comes from. In a clone, the older build runs if a feature
-    is missing; the installed program chooses its build itself. Neither runs on too old processors. Stand-ins print
-    which tunables they get, the user's or ours."""
-    began, prefix, newer = time.monotonic(), tmp_path / 'chosen', 'the newer one glibc.malloc.'
+def test_launchers_start_at_once_and_say_once_where_the_program_comes_from(copy, tmp_path):
+    """Stand-ins print which tunables they get, the user's or ours."""
+    began, prefix = time.monotonic(), tmp_path / 'chosen'
     launchers = prefix / 'bin/proved-argon2', copy / 'argon2'
-    stand_in = '#!/bin/sh\necho the newer one "$GLIBC_TUNABLES"\n'
     first, second = (in_copy(copy, './argon2', *WORDS, input='password').stdout for _ in range(2))
     assert time.monotonic() - began < 4 and f'{TAG}\n' in first and second.startswith(f'{TAG}\n')
     assert NOTICE in first and NOTICE not in second and NOTICE in in_copy(copy, './install', prefix).stdout
-    (copy / 'release' / TOOL).write_text(stand_in, encoding='utf-8')
+    for tool in copy / 'release' / TOOL, prefix / f'libexec/proved-argon2/{os.uname().machine}/argon2_tool':
+        tool.write_text('#!/bin/sh\necho "$GLIBC_TUNABLES"\n', encoding='utf-8')
     take_sum(copy, TOOL)
-    for launcher, flag in ((launcher, flag) for launcher in launchers for flag in OLD + NEW):
-        came = on_processor(launcher, [word for word in OLD + NEW if word != flag], tmp_path)
-        assert ('older than x86-64-v2' in came.stdout and came.returncode == 70) == (flag in OLD), flag
-        assert (TAG in came.stdout) == (flag in NEW), flag
-    (prefix / f'libexec/proved-argon2/{os.uname().machine}/argon2_tool').write_text(stand_in, encoding='utf-8')
     for launcher in launchers:
-        assert on_processor(launcher, OLD + NEW, tmp_path).stdout.endswith(f'{newer}hugetlb=1\n')
-        own = ['env', 'GLIBC_TUNABLES=glibc.malloc.check=0']
-        assert f'{newer}check=0\n' in on_processor(launcher, OLD + NEW, tmp_path, *own).stdout
+        assert run(launcher, *WORDS).stdout.endswith('glibc.malloc.hugetlb=1\n')
+        assert run('env', 'GLIBC_TUNABLES=glibc.malloc.check=0', launcher, *WORDS).stdout.endswith('.check=0\n')
     assert in_copy(copy, './install', '--remove', prefix).returncode == 0 and not prefix.exists()
 
 
@@ -132,7 +118,7 @@ FORGERIES = {
     'another library for ARM64': (forge(ARM64), [PACKAGE], f'release/{ARM64} {CHANGED}'),
     'other sources': (edit('crates/argon2/src/lib.rt', r'\Z', '// more\n'), [INSTALL, PACKAGE, HASH],
                       f'{LIST} is of other sources of '),
-    'another processor': (edit(LIST, f'  {TOOL}', '  x86-64-v9/argon2_tool'), [INSTALL, PACKAGE],
+    'another processor': (edit(LIST, f'  {TOOL}', '  x86_65/argon2_tool'), [INSTALL, PACKAGE],
                           f'{LIST} does not name {TOOL}'),
     'a list that lacks a file': (edit(LIST, f'^.*  {SHARED}\n', ''), [INSTALL, PACKAGE],
                                  f'{LIST} does not name {SHARED}'),
@@ -176,14 +162,6 @@ def test_the_comparison_takes_no_option_of_apt_get_for_a_package(compared, copy)
     assert ran.returncode == 1 and f'{LIST} names other packages than build/current.sh' in ran.stdout
 
 
-def test_an_archive_of_the_sources_is_compared_without_what_it_lacks(compared, copy):
-    programs = [*copy.glob('release/x86-64-v*/argon2_*')]
-    for program in programs:
-        program.unlink()
-    ran = compare(copy)
-    assert len(programs) == 4 and ran.returncode == 0, ran.stdout
-
-
 # Stand-ins pretend that other versions than the listed are installed here, and that a chroot with those listed links
 # the files of release/.
 STAND_INS = {
@@ -193,12 +171,12 @@ STAND_INS = {
 
 def test_what_only_the_listed_versions_link_is_named(compared, copy, tmp_path):
     """This shows if somebody has replaced a compiler."""
-    forge('x86_64/argon2', is_listed=True)(copy)
+    forge('x86_64/argon2_tool', is_listed=True)(copy)
     for name, text in STAND_INS.items():
         (tmp_path / name).write_text(f'#!/bin/sh\n{text}\n', encoding='utf-8')
         (tmp_path / name).chmod(0o755)
     ran = compare(copy, 'env', f'PATH={tmp_path}:{os.environ["PATH"]}')
-    assert re.findall(r'/release/(\S+) differ', ran.stdout) == ['x86_64/argon2'] and ran.returncode == 3
+    assert re.findall(r'/release/(\S+) differ', ran.stdout) == ['x86_64/argon2_tool'] and ran.returncode == 3
 
 
 @needs_root
