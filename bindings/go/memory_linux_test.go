@@ -38,7 +38,7 @@ func TestMemoryDoesNotGrow(t *testing.T) {
 		for i := 0; i < count; i++ {
 			must(Verify(must(h.Hash(ctx, password)), password))
 			must(HashRaw(password, password, small()))
-			must(NewHasher(small(), mostBuffers, 0)) // (128 KiB for the places of its buffers)
+			must(NewHasher(small(), 1024, 0)) // (16 KiB for the places of its buffers)
 			if i%200 == 0 {
 				settle() // (otherwise a busy machine frees thousands later, and the heap of C keeps their memory)
 				other := must(NewHasher(small(), 1, 0))
