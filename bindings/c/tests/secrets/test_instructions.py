@@ -48,10 +48,9 @@ ARM64 = re.compile(
 NEVER_STEADY = 'div divl idiv idivq divsd sqrtsd vdivps udiv sdiv fdiv frecpe fsqrt'.split()
 # Multiplications of the compression: an object without them was not examined.
 PRODUCT = re.compile('v?pmuludq|um(ull|lal)2?')
-# The other instructions, with how many there are: divisions by numbers of the settings. Those of the last three yield
-# the lane that a word selects, which the next reference's address reveals anyhow.
-DIVIDING = {'accepted_context': 1, 'proved_argon2_memory_len': 1, 'fill_independent': 2, 'fill_dependent': 1,
-            'expected_reference': 1}
+# The other instructions, with how many there are: divisions by numbers of the settings. That of the last one yields the
+# lane that a word selects, which the next reference's address reveals anyhow.
+DIVIDING = {'accepted_context': 1, 'proved_argon2_memory_len': 1, 'pick': 1}
 # A generic function's name ends like this. A build's calls begin like this in the archive, which has all builds.
 GENERIC = re.compile(r'::<#\w+>$')
 OF_BUILD = re.compile(r'^proved_(?:x86_64_v\d|armv8_a(?:_neon)?)_')
