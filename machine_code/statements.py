@@ -21,6 +21,7 @@ import clearing  # noqa: E402
 import comparison  # noqa: E402
 import first_blocks  # noqa: E402
 import prehash  # noqa: E402
+import presets  # noqa: E402
 import segments  # noqa: E402
 import settings  # noqa: E402
 import steps  # noqa: E402
@@ -39,7 +40,8 @@ STATEMENTS = {
     'filling::fill_dependent': (segments.prove_dependent, ((0, True),)),
     'filling::fill_caller_segment': (segments.prove_segment, segments.CASES)}
 # The statements about byte strings, settings and whole calls: by a function's name, what proves it, and the file.
-MODULES = blake2b, calls, clearing, comparison, first_blocks, prehash, settings, steps, tag, variable_length_hash
+MODULES = (blake2b, calls, clearing, comparison, first_blocks, prehash, presets, settings, steps, tag,
+           variable_length_hash)
 OF_BYTES = {name: (prove, f'{module.__name__}.py') for module in MODULES for name, prove in module.STATEMENTS.items()}
 SLOW = 'blake2b', 'are_equal'  # (minutes, so in one build)
 # Functions of which test_machine_code.py shows that they are G, F or prefetches.
@@ -58,7 +60,7 @@ NOT_COVERED = {
     **dict.fromkeys(('jobs::make_stored', 'encoded_hash::head_of', 'letters::is_item', 'letters::three_bytes',
                      'salt_and_hash::read_item', 'salt_and_hash::put_hash', 'placing::put_number'),
                     'no statement yet: the text'),
-    'proved_x86_64_v': 'no statement yet: exported calls that read or write the text, and presets'}
+    'proved_x86_64_v': 'no statement yet: exported calls that read or write the text'}
 DRIVER = 'written in C: see test_verdict.py'
 
 
