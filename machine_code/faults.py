@@ -35,12 +35,19 @@ def changes(text, draw):
     return found
 
 
+def with_fault(code, begin, at, text):
+    """The code with another instruction in a function."""
+    other, instruction = copy.copy(code), (text, code.bodies[begin][at][1])
+    other.bodies = {**code.bodies, begin: {**code.bodies[begin], at: instruction}}
+    other.instructions = {**code.instructions, at: instruction}
+    return other
+
+
 def planted(code, begin, draw):
-    """The code with a fault in a function; and the fault: where it is, the text before, and that in its place."""
+    """The code with a fault in a function; the fault: where it is, the text before, and that in its place; and where
+    it is."""
     body = code.bodies[begin]
     at = draw.choice([at for at, (text, _) in body.items() if not IDLE.fullmatch(text)])
-    text, size = body[at]
-    wrong, other = draw.choice(changes(text, draw) or ['nop']), copy.copy(code)
-    other.bodies = {**code.bodies, begin: {**body, at: (wrong, size)}}
-    other.instructions = {**code.instructions, at: (wrong, size)}
-    return other, f'{at:#x}: {wrong} in place of {text}'
+    text = body[at][0]
+    wrong = draw.choice(changes(text, draw) or ['nop'])
+    return with_fault(code, begin, at, wrong), f'{at:#x}: {wrong} in place of {text}', at

@@ -47,7 +47,7 @@ def test_planted_faults():
     for name in names:
         begin = begin_of(code(), name, NEWEST)
         for _ in range(PLANTED):
-            changed, what = faults.planted(code(), begin, draw)
+            changed, what, _ = faults.planted(code(), begin, draw)
             if is_found(name, changed, begin):
                 found += 1
             elif not HARMLESS.match(what.partition(' in place of ')[2]):
