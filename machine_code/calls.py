@@ -8,7 +8,7 @@ from proving import low
 from settings import KINDS, RESULT_SIZE
 from symbolic import number
 
-# A string that is null, and so empty, may be passed as one at this address.
+# A string that is null, and so empty, is passed as one at this address.
 EMPTY = 1 << 12
 FAILURES = [(number(CODES[kind], 32), number(1 + (value << BYTE), 24)) for kind, value in KINDS.items()]
 ERROR = word('error of the table', BYTE)
@@ -26,9 +26,9 @@ def passes_on(kinds, found):
         prover.claim(path, path.ghosts['called'] == 0, 'it calls twice')
         for index, kind in enumerate(kinds):
             given, wanted = path.given(1 + index), word(f'argument {index}')
-            is_same = low(given) == low(wanted) if kind == 'n' else given == wanted
-            is_empty = z3.And(wanted == 0, given == EMPTY) if kind == 's' else z3.BoolVal(False)
-            prover.claim(path, z3.Or(is_same, is_empty), f'it passes another argument {index}')
+            given, wanted = (low(given), low(wanted)) if kind == 'n' else (given, wanted)
+            wanted = z3.If(wanted == 0, EMPTY, wanted) if kind == 's' else wanted
+            prover.claim(path, given == wanted, f'it passes another argument {index}')
         prover.write(path, prover.own(path, path.given(0), RESULT_SIZE, 'the result'), found)
         path.ghosts['called'] = number(1)
     return contract
