@@ -40,10 +40,11 @@ def top(tmp_path_factory):
         (made / file).write_text(text, encoding='utf-8')
     for crate, name, kind, old, new, goals, _ in EDITS:
         goals = ''.join(f'goal: {goal}\n' for goal in goals.split(', ') if goal)
-        file = f'{kind}/{name}.edit' if kind == TRIED_ALONE else MUTANTS
-        (made / f'crates/{crate}/{file}').parent.mkdir(parents=True, exist_ok=True)
-        with (made / f'crates/{crate}/{file}').open('a', encoding='utf-8') as to:
-            to.write(f'{kind} {name}\n' * (kind != TRIED_ALONE) + f'file: src/lib.rt\nold: {old}\nnew: {new}\n{goals}')
+        file = made / f'crates/{crate}' / (f'{kind}/{name}.edit' if kind == TRIED_ALONE else MUTANTS)
+        file.parent.mkdir(parents=True, exist_ok=True)
+        with file.open('a', encoding='utf-8') as to:
+            to.write('file: src/lib.rt\n' + '\n' * (kind != TRIED_ALONE) if not to.tell() else '')
+            to.write(f'{kind} {name}\n' * (kind != TRIED_ALONE) + f'old: {old}\nnew: {new}\n{goals}')
             to.write('\n' * (kind != TRIED_ALONE))
     return made
 

@@ -148,11 +148,18 @@ class Edit:
 
 
 def blocks_of_edits(folder):
-    """Yields the text of each mutant of a crate, below a line with its verdict and its name."""
+    """Yields the text of each mutant of a crate, below a line with its verdict and its name. In the list, a block of
+    one line may name the file of the mutants below it."""
     for file in sorted(folder.glob(f'{TRIED_ALONE}/*.edit')):
         yield f'{REFUSED} {file.stem}\n{file.read_text(encoding="utf-8")}'
     text = (folder / MUTANTS).read_text(encoding='utf-8') if (folder / MUTANTS).exists() else ''
-    yield from filter(None, re.split(r'\n{2,}', text.strip('\n')))
+    heading = ''
+    for block in filter(None, re.split(r'\n{2,}', text.strip('\n'))):
+        first, _, rest = block.partition('\n')
+        if re.fullmatch('file: .+', block):
+            heading = f'{block}\n'
+        else:
+            yield f'{first}\n{"" if rest.startswith("file: ") else heading}{rest}'
 
 
 def edits(sources):
