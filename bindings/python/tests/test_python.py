@@ -23,18 +23,6 @@ seen = []
 hash_secret_raw(b"password", b"somesaltsomesalt", 1, 65536, 4, 32, Type.ID,
                 progress=lambda *_: seen.append(len(os.listdir("/proc/self/task"))))
 print(max(seen))"""
-# Prints how many pieces of a tag a verification leaves in registers, how many are found after they were put there, and
-# in which registers the search looks.
-REGISTERS = """import ctypes, sys
-from proved_argon2 import _library
-from proved_argon2.low_level import Type, hash_secret, hash_secret_raw
-looker, password, size = ctypes.CDLL(sys.argv[1]), b"password", ctypes.c_size_t
-looker.looked_at.restype = ctypes.c_char_p
-inputs = password, b"somesaltsomesalt", 1, 64, 1, 32, Type.ID
-text, tag = hash_secret(*inputs), hash_secret_raw(*inputs)
-call = ctypes.cast(_library._library.proved_argon2_verify_encoded, ctypes.c_void_p)
-left = looker.pieces_left(call, text, password, size(len(password)), tag, size(len(tag)))
-print(left, looker.pieces_filled(tag[:16]), looker.looked_at().decode())"""
 
 
 def has(*modules):
@@ -89,12 +77,6 @@ def compile_shared(source, made, *words):
 def test_each_number_that_the_library_can_return(with_library, tmp_path):
     library = compile_shared("bindings/tests/codes.c", tmp_path / "codes.so", "-I", "bindings/c/include")
     run(*PYTEST, "-W", "error", TESTS / "codes.py", env={**with_library, "PROVED_ARGON2_LIBRARY": library})
-
-
-def test_a_verification_leaves_no_tag_in_the_vector_registers(with_library, tmp_path):
-    """The search finds both pieces once a register was filled with the tag."""
-    looker = compile_shared(TESTS / "registers.c", tmp_path / "registers.so")
-    assert re.match(r"0 2 \w", run(PYTHON, "-c", REGISTERS, looker, env=with_library))
 
 
 @pytest.mark.skipif(not has("hypothesis"), reason="there is no hypothesis")
