@@ -1,5 +1,6 @@
 # Completes the manual of the calls from the headers: awk -f headers.awk HEADER.. PAGE. In the page it replaces
 #     @CALLS PATTERN@     by the declarations of the calls whose names match
+#     @WORDS PATTERN@     by each of these calls with the comment above it
 #     @PRESETS@           by each call of recommended settings, with its comment
 #     @FIELDS TYPE@       by the fields of a type, with the comment before each
 #     @TYPE NAME@         by a type's definition, without comments
@@ -45,6 +46,19 @@ function print_call(text,  parts, count, i, line)
             print_call(declared[names[i]])
     next
 }
+/^@WORDS / {
+    for (i = 1; i <= calls; i++)
+        if (substr(names[i], 15) ~ "^(" substr($2, 1, length($2) - 1) ")$") {
+            if (words)
+                printf "%s", (above[names[i]] ? words ".TP\n" : ".TQ\n")
+            printf "%s.BR %s ()\n", (words ? "" : ".TP\n"), names[i]
+            if (above[names[i]])
+                words = above[names[i]]
+        }
+    printf "%s", words
+    words = ""
+    next
+}
 /^@PRESETS@/ {
     for (i = 1; i <= calls; i++)
         if (declared[names[i]] ~ /^proved_argon2_settings /)
@@ -56,10 +70,23 @@ function print_call(text,  parts, count, i, line)
 /^@ERRORS@/ { printf "%s", errors; next }
 FILENAME !~ /\.h$/ { print; next }
 
+/^\/\*/ { comment = ""; in_comment = 1 }
+in_comment {
+    line = words_of($0)
+    if (line || !/^ \*$/)
+        comment = comment (line ? line "\n" : "")
+    else
+        comment = comment ".IP\n"
+    in_comment = !/\*\/$/
+}
+/^$/ { comment = "" }
+
 /^(const char \*|[a-z][a-z0-9_]* )proved_argon2_[a-z0-9_]*\(/ {
     match($0, /proved_argon2_[a-z0-9_]*\(/)
     name = substr($0, RSTART, RLENGTH - 1)
     names[++calls] = name
+    above[name] = comment
+    comment = ""
     call = ""
 }
 name {
