@@ -44,10 +44,9 @@ def with_fault(code, begin, at, text):
 
 
 def planted(code, begin, draw):
-    """The code with a fault in a function; the fault: where it is, the text before, and that in its place; and where
-    it is."""
+    """The code with a fault in a function; where that is, and the instruction there before and after."""
     body = code.bodies[begin]
     at = draw.choice([at for at, (text, _) in body.items() if not IDLE.fullmatch(text)])
     text = body[at][0]
     wrong = draw.choice(changes(text, draw) or ['nop'])
-    return with_fault(code, begin, at, wrong), f'{at:#x}: {wrong} in place of {text}', at
+    return with_fault(code, begin, at, wrong), at, text, wrong

@@ -76,12 +76,13 @@ def test_planted_faults_are_found(monkeypatch, archive, name, cases):
     draw, begin, missed = random.Random(f'{SEED}'), begins(archive, name)[-1], []
     print('SEED', SEED)
     for _ in range(PLANTED * (10 if IS_FULL else 1)):
-        other, what, at = faults.planted(archive, begin, draw)
+        other, at, before, after = faults.planted(archive, begin, draw)
         if not any(is_refused(other, name, case) for case in cases):
             with monkeypatch.context() as patch:
                 patch.setattr(segments.Segments, 'step', side_by_side(segments.Segments.step, archive, other, at))
-                missed += [(what, case) for case in cases if is_refused(archive, name, case)
-                           and not re.search(HARMLESS.get((name, case), ('$^',))[0], archive.bodies[begin][at][0])]
+                missed += [(f'{at:#x}: {after} in place of {before}', case) for case in cases
+                           if is_refused(archive, name, case)
+                           and not re.search(HARMLESS.get((name, case), ('$^',))[0], before)]
     assert not missed
 
 
