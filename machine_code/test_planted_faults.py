@@ -22,7 +22,7 @@ PLANTED = 6 if IS_FULL else 1
 HARMLESS = (
     ('.*', r'v?movups [XY]MMWORD PTR \[rsp.*|v?xorps +(\w+)(,\1)+', 'clears bytes of its own frame, which nobody reads'),
     ('caller_blocks::.*', r'cmp .*,0x401|setae .*', 'says which blocks are prefetched'),
-    ('wipe.*', r'cmp .*', 'clears the same in other parts'))
+    ('wipe.*', r'(cmp|ja) .*', 'clears the same in other parts'))
 
 
 @pytest.fixture(scope='module')
