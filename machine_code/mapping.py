@@ -1,5 +1,5 @@
 """Which block a block refers to (RFC 9106, 3.4.2), as one formula over numbers or over words of Z3. rfc9106.py builds
-the set W as a list, which has no length that Z3 knows; test_segments.py compares the formula with it."""
+the set W as a list, which has no length that Z3 knows; test_formulas.py compares the formula with it."""
 
 import z3
 from symbolic import resized

@@ -20,7 +20,7 @@ SEED = os.environ.get('SEED') or (random.randrange(1 << 32) if IS_FULL else 1)
 PLANTED = 6 if IS_FULL else 1
 # The functions, the instructions, and the reasons.
 HARMLESS = (
-    ('.*', r'v?movups [XY]MMWORD PTR \[rsp.*|v?xorps +(\w+)(,\1)+', 'clears bytes of its own frame, which nobody reads'),
+    ('.*', r'v?movups [XY]MMWORD PTR \[rsp.*|v?xorps +(\w+)(,\1)+', 'clears what nobody reads of its own frame'),
     ('caller_blocks::.*', r'cmp .*,0x401|setae .*', 'says which blocks are prefetched'),
     ('wipe.*', r'(cmp|ja) .*', 'clears the same in other parts'))
 

@@ -8,11 +8,10 @@ import re
 
 import faults
 import pytest
-import rfc9106
 import segments
 from induction import Assumed, differences
 from linked import Code
-from mapping import Numbers, first_index, prove_facts, reference
+from mapping import prove_facts
 from statements import ARCHIVE, BUILDS, STATEMENTS, TABLE, begins, prove, table, text_of
 from terms import Fault
 
@@ -49,19 +48,6 @@ def test_the_table_names_each_function(archive):
     other.names = {**archive.names, 1: 'argon2_fill::caller_blocks::planted'}
     with pytest.raises(Fault, match='planted'):
         table(other)
-
-
-def test_the_mapping_is_the_rfc_s():
-    """For drawn settings, places and words."""
-    draw = random.Random(f'{SEED}')
-    print('SEED', SEED)
-    for _ in range(3000):
-        lanes, length, passes = draw.randint(1, 4), draw.randint(3, 6), draw.randint(1, 3)
-        setting = rfc9106.Setting(0, 19, passes, 4 * length * lanes, lanes, 32, b'', b'')
-        r, s, lane, word = draw.randrange(passes), draw.randrange(4), draw.randrange(lanes), draw.getrandbits(64)
-        index = draw.randrange(first_index(s, r == 0), length)
-        other, _, column = setting.reference(r, lane, s, index, word)
-        assert reference(Numbers, s, r == 0, lanes, length, lane, index, word) == (other, column)
 
 
 @pytest.mark.parametrize('s, is_first', segments.CASES)
