@@ -16,14 +16,14 @@ HASH_LENGTH, TAG_LENGTH, EQUAL = word('length of hash'), word('length of tag'), 
 
 
 def hashed(fields, arguments):
-    """The contract of what computes the tag of a job over blocks: `arguments` says which of its arguments are the
-    job, the blocks, the place of the tag, and its length."""
+    """The contract of what computes the tag of a job over blocks: `arguments` has the index of its argument that is the
+    job, and what others are."""
     def contract(prover, path):
-        job, *others = (path.given(index) for index in arguments)
+        at, others = arguments
         for name, value in fields.items():
-            found = prover.string(path, job + JOB[name], value.size() // BYTE, 'the job')
+            found = prover.string(path, path.given(at) + JOB[name], value.size() // BYTE, 'the job')
             prover.claim(path, found == value, f'it hashes with another {name}')
-        prover.claim(path, z3.And(*(one == other for one, other in zip(others, (BLOCKS, TAG, TAG_LENGTH)))),
+        prover.claim(path, z3.And(*(path.given(index) == wanted for index, wanted in others.items())),
                      'it hashes other blocks, or to another place')
         prover.claim(path, path.ghosts['made'] == 0, 'it hashes twice')
         path.ghosts['made'] = number(1)
@@ -41,13 +41,13 @@ def compared(prover, path):
     return [z3.Concat(prover.fresh('above', 56), EQUAL)]
 
 
-SLICE, MEMORY = {'finalize_slice': (0, 1, 2, 3)}, {'hash_job_over': (1, 2, 4, 5)}
+SLICE = {'finalize_slice': (0, {1: BLOCKS, 2: TAG, 3: TAG_LENGTH})}
+MEMORY = {'hash_job_over': (1, {2: BLOCKS, 3: COUNT, 4: TAG, 5: TAG_LENGTH})}
 
 
 def statement(makers, has_hash, blocks):
-    """The statement about a call that is passed a job, blocks, a hash if it compares, and the place of a tag.
-    `blocks` is how
-    many blocks there have to be."""
+    """The statement about a call that is passed a job, blocks, a hash if it compares, and the place of a tag. `blocks`
+    is how many blocks there have to be."""
     @in_both_cases
     def proved(code, begin, is_accepted):
         values = job_values()
@@ -81,8 +81,7 @@ def blocks_of_memory(prover, values):
 
 def whole(has_hash):
     """The statement about a call that makes H0 itself: it is passed the inputs, the settings and blocks, and what a
-    call
-    with a job is passed. The length of a stored hash stands for the one in the settings."""
+    call with a job is passed. The length of a stored hash stands for the one in the settings."""
     def proved(code, begin):
         numbers, values = numbers_of(FIELDS), values_of_call()
         tag = HASH_LENGTH if has_hash else wide(numbers['tag'])
