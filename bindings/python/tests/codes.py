@@ -3,7 +3,6 @@ PROVED_ARGON2_LIBRARY names the library, made of codes.c."""
 import collections
 import concurrent.futures
 import math
-import unittest.mock
 
 import pytest
 from proved_argon2 import (
@@ -54,15 +53,14 @@ OTHERS = {
         (lambda: PasswordHasher(keep_memory=True).hash("p"), "x" * 12),
         (lambda: hash_password(b"p"), b"x" * 12), (lambda: hash_password_raw(b"p"), b"x" * 32)))},
     "memory": ("memory", lambda: Memory(64) and 1, {0: 1}, errors.HashingError),
-    # A hash that was made with other settings matches.
     **{f"verify {place}": (
         "then", lambda named=named: PasswordHasher(**named).verify(TEXT, "p"),
-        {**VERDICTS, 0: True, NEEDS_REHASH: True}, errors.VerificationError)
+        {**VERDICTS, 0: True}, errors.VerificationError)
         for place, named in enumerate(({}, {"limits": None}, {"keep_memory": True}))},
     "older verify": ("then", lambda: verify_password(TEXT.encode(), b"p", Type.ID), {**VERDICTS, 0: True},
                      errors.VerificationError),
-    "login": ("then", lambda: log_in(),
-              {**VERDICTS, 0: (True, None), MISMATCH: (False, None), NEEDS_REHASH: (True, "y")},
+    "login": ("then", lambda: PasswordHasher().verify_and_update(TEXT, "p"),
+              {**VERDICTS, 0: (True, None), MISMATCH: (False, None), NEEDS_REHASH: (True, "x" * 12)},
               errors.VerificationError),
     # A user who does not exist is never let in.
     "unknown": ("then", lambda: UNKNOWN.verify_unknown("word"), {MISMATCH: False, TOO_COSTLY: errors.TooCostlyError},
@@ -75,12 +73,6 @@ OTHERS = {
              {0: Parameters(Type.ID, 19, 16, 32, 2, 8192, 3), TOO_COSTLY: ValueError}, errors.HashingError),
 }
 pytestmark = pytest.mark.filterwarnings("ignore:.* is deprecated:DeprecationWarning")
-
-
-def log_in():
-    """Log in, and renew the hash without the library."""
-    with unittest.mock.patch.object(PasswordHasher, "hash", return_value="y"):
-        return PasswordHasher().verify_and_update(TEXT, "p")
 
 
 def said_of(number):
@@ -172,6 +164,15 @@ def test_a_hasher_passes_its_arguments_and_limits_in_order(keep_memory):
     assert Limits() == Limits(memory_cost=7, time_cost=8, parallelism=9, work=10)
 
 
+@pytest.mark.parametrize("new, passed", [("old", ""), ("new", "new")])
+def test_a_renewal_passes_its_arguments_in_order(new, passed):
+    old = PasswordHasher(secret=b"old", limits=Limits(100000, 11, 12, 1000000))
+    newest = PasswordHasher(3, 64, 4, 5, 8, type=Type.I, secret=new.encode())
+    assert old.verify_and_update(TEXT, "word", associated_data=b"data", renew_by=newest) == (True, None)
+    assert seen().computing == f"renew {TEXT} word old {passed} data 100000 1 19 64 3 4 5 8"
+    assert (seen().telling, seen().threads) == ("length 1 19 64 3 4 5 8", MOST)
+
+
 def computing(**named):
     """Yield the calls that take a progress callback."""
     for memory in (None, Memory(64)):
@@ -179,6 +180,7 @@ def computing(**named):
         yield from (lambda call=call: call(memory=memory, **named) for call in CALLS.values())
         yield lambda: hasher.hash("p", **named)
         yield lambda: hasher.verify(TEXT, "p", **named)
+        yield lambda: hasher.verify_and_update(TEXT, "p", **named)
 
 
 def in_a_thread(call):

@@ -285,11 +285,20 @@ def test_check_needs_rehash_and_verify_and_update_compare_each_setting():
     assert PasswordHasher(**today).verify_and_update(TEXT, "password") == (True, None)
 
 
-@pytest.mark.parametrize("error", [HashingError("Out of memory"), MemoryError()])
-def test_verify_and_update_accepts_the_password_if_the_new_hash_cannot_be_computed(error):
+@pytest.mark.parametrize("name, number", [
+    ("hash_len", 3), ("hash_len", (1 << 32) + 32), ("salt_len", 0), ("salt_len", 7), ("salt_len", -1),
+    ("time_cost", (1 << 32) + 1)])
+def test_verify_and_update_accepts_the_password_if_there_can_be_no_new_hash(name, number):
     old = PasswordHasher(**OTHER).hash("password")
-    with mock.patch.object(PasswordHasher, "hash", side_effect=error):
-        assert PasswordHasher(**SMALL).verify_and_update(old, "password") == (True, None)
+    hasher = PasswordHasher(**{**SMALL, name: number})
+    assert hasher.verify_and_update(old, "password") == (True, None)
+    assert hasher.verify_and_update(old, "Password") == (False, None)
+
+
+def test_a_hasher_with_a_secret_is_not_replaced_by_one_without():
+    hasher = PasswordHasher(**SMALL, secret=b"pepper")
+    with pytest.raises(ValueError, match="^'renew_by' must have a secret, since this hasher has one$"):
+        hasher.verify_and_update(hasher.hash("password"), "password", renew_by=HASHER)
 
 
 class Denied:
@@ -312,25 +321,32 @@ def test_memory_that_is_denied_to_ctypes_has_run_out(monkeypatch, name, expected
     with pytest.raises(expected, match="^Out of memory$") as raised:
         calls[expected]()
     assert raised.type is expected
-    if expected is HashingError:
+    if name == "encoded_len":
         assert HASHER.verify_and_update(old, "password") == (True, None)
+
+
+def test_memory_that_is_denied_to_a_renewal_has_run_out(monkeypatch):
+    types, result = _library._CALLS["password_renew"]
+    monkeypatch.setitem(_library._CALLS, "password_renew", ([Denied, *types[1:]], result))
+    monkeypatch.setattr(_library, "_library", _library._load())
+    with pytest.raises(VerificationError, match="^Out of memory$"):
+        HASHER.verify_and_update(TEXT, "password")
 
 
 @pytest.mark.parametrize("error", [MemoryError, OverflowError])
 def test_a_hash_that_does_not_fit_into_memory_raises_hashing_error(error):
+    old = PasswordHasher(**OTHER).hash("password")
     with mock.patch("ctypes.create_string_buffer", side_effect=error):
         with pytest.raises(HashingError, match="^Out of memory$"):
             HASHER.hash("password")
+        assert HASHER.verify_and_update(old, "password") == (True, None)
 
 
 @of_the_old_calls
 @pytest.mark.parametrize("error", [OSError("no device"), NotImplementedError("no device")])
-def test_the_right_password_is_accepted_and_no_hash_is_made_if_the_system_makes_no_salt(error):
-    old, hasher = PasswordHasher(**OTHER).hash("password"), PasswordHasher(**SMALL)
+def test_no_hash_is_made_if_the_system_makes_no_salt(error):
     with mock.patch("os.urandom", side_effect=error):
-        assert hasher.verify_and_update(old, "password") == (True, None)
-        assert hasher.verify_and_update(old, "Password") == (False, None)
-        for call in (lambda: hasher.hash("password"), *(lambda old=old: old(b"password") for old in OLD_CALLS[:2])):
+        for call in (lambda: HASHER.hash("password"), *(lambda old=old: old(b"password") for old in OLD_CALLS[:2])):
             with pytest.raises(HashingError, match="^the system makes no random salt: no device$"):
                 call()
 

@@ -36,13 +36,14 @@ def calls(time_cost, memory_cost, lanes, **named):
     """Return the calls that take `progress`, each with its expected result."""
     arguments = (b"password", b"somesalt", time_cost, memory_cost, lanes, 24, Type.ID)
     text = hash_secret(*arguments)
-    hasher = PasswordHasher(time_cost=time_cost, memory_cost=memory_cost, parallelism=lanes, hash_len=24)
+    hasher = PasswordHasher(time_cost=time_cost, memory_cost=memory_cost, parallelism=lanes, hash_len=24, salt_len=8)
     return [
         (lambda: hash_secret(*arguments, **named), text),
         (lambda: hash_secret_raw(*arguments, **named), hash_secret_raw(*arguments)),
         (lambda: verify_secret(text, b"password", Type.ID, **named), True),
         (lambda: hasher.hash("password", salt=b"somesalt", progress=named["progress"]), text.decode()),
         (lambda: hasher.verify(text, "password", progress=named["progress"]), True),
+        (lambda: hasher.verify_and_update(text, "password", progress=named["progress"]), (True, None)),
     ]
 
 
@@ -82,6 +83,21 @@ def test_progress_is_called_for_each_slice_in_the_caller_s_thread(costs):
             for call, answer in calls(*costs, **named):
                 assert (call(), pool.submit(call).result(), seen) == (answer, answer, told + told_there)
                 seen.clear()
+
+
+def test_progress_is_called_for_each_slice_of_a_renewal():
+    """The callback also hears of the new hash, and its exception is raised, so that no login goes on after it."""
+    old, hasher, seen = PasswordHasher(2, 8, 1).hash("password"), PasswordHasher(1, 8, 1), []
+    is_match, new = hasher.verify_and_update(old, "password", progress=lambda *progress: seen.append(progress))
+    assert is_match and hasher.verify(new, "password")
+    assert seen == [*((done, 8) for done in range(1, 9)), *((done, 4) for done in range(1, 5))]
+
+    def second(done, slices):
+        if slices == 4:
+            raise KeyError
+
+    with pytest.raises(KeyError):
+        hasher.verify_and_update(old, "password", progress=second)
 
 
 def test_an_exception_of_progress_stops_the_call():

@@ -7,6 +7,7 @@ import ctypes
 import os
 import sys
 import threading
+from contextlib import suppress
 
 TYPE_CHECKING = False
 if TYPE_CHECKING:
@@ -125,6 +126,7 @@ _CALLS: "Dict[str, Tuple[List[Any], Any]]" = {
     "hashes_at_once": ([*_SETTINGS, ctypes.c_uint64], ctypes.c_uint32),
     "read": ([*_BYTES, ctypes.POINTER(Stored)], ctypes.c_uint32),
     "encoded_len": ([*_SETTINGS, ctypes.c_uint32], ctypes.c_uint64),
+    "password_renew": ([ctypes.POINTER(Options), *6 * _BYTES], ctypes.c_uint32),
     "password_verify_unknown": ([ctypes.POINTER(Options), *_SETTINGS, *2 * _BYTES], ctypes.c_uint32),
     "buffers_new": ([*_SETTINGS, ctypes.c_uint32, ctypes.POINTER(ctypes.c_void_p)], ctypes.c_uint32),
     "buffers_free_idle": ([ctypes.c_void_p], ctypes.c_uint32),
@@ -235,21 +237,21 @@ class Stop:
 
 
 def _answers(
-    progress: "Optional[Progress]", slices: int, raised: "List[BaseException]"
+    progress: "Optional[Progress]", slices: "Sequence[int]", raised: "List[BaseException]"
 ) -> "Generator[int, object, None]":
     """Yield what the callback of a call returns: 0 to go on, or 1 to stop after an exception, which `raised` gets.
+    `slices` has the number of slices of each hash that the call computes.
 
     A callback is a generator's `send`, because Python runs the handlers of signals when it resumes a generator. Then
     the `try` catches what they raise. In a function, handlers would run before the first line, and their exceptions be
     lost. So the generator first has to be started.
     """
-    done = 0
+    told = ((done, of_hash) for of_hash in slices for done in range(1, of_hash + 1))
     try:
         while True:
             yield 0
-            done += 1
             if progress is not None:
-                progress(done, slices)
+                progress(*next(told, (0, 0)))
     except GeneratorExit:
         return
     except BaseException as error:
@@ -264,9 +266,9 @@ def _compute(
     arguments: "Sequence[Any]",
     memory: "Optional[Memory]",
     progress: "Optional[Progress]",
-    slices: int,
+    *slices: int,
 ) -> int:
-    """Make a call of so many slices, in kept buffers if there is a `memory`, and return its number.
+    """Make a call whose hashes have so many slices, in kept buffers if there is a `memory`, and return its number.
 
     It has a callback only if something can stop it: without one, the proved code computes a whole hash of one lane.
     Python runs the handlers of signals, which may raise an exception, in the main thread only.
@@ -299,7 +301,7 @@ def hash_pieces(
     """
     if is_encoded:
         call = _library.proved_argon2_hash_encoded_with
-        out = _buffer(_library.proved_argon2_encoded_len(settings, _length(pieces[1])) + 1)
+        out = _buffer(text_length(settings, _length(pieces[1])))
     else:
         call = _library.proved_argon2_hash_raw_with
         out = _buffer(settings.hash_length)
@@ -313,27 +315,41 @@ def verify_pieces(
     limits: "Optional[NumberLimits]",
     memory: "Optional[Memory]",
     progress: "Optional[Progress]",
-    new: "Optional[Tuple[Settings, int]]" = None,
-) -> bool:
-    """Verify four pieces: an encoded hash, password, secret and associated data. `new` has the settings and the length
-    of the salt of new hashes. Return whether the encoded hash has others. The library uses a thread for each lane, and
-    at most 16.
+) -> None:
+    """Verify four pieces: an encoded hash, password, secret and associated data. The library uses a thread for each
+    lane, and at most 16.
 
     Raises `Refused` if they do not match, or the hash is above the limits.
     """
-    options = _options(MAX_NUMBER)
-    if limits is not None:
-        options.limits = ctypes.pointer(limits)
-    if new is not None:
-        options.new_settings, options.new_salt_len = ctypes.pointer(new[0]), new[1]
-    call, slices = _library.proved_argon2_verify_encoded_with, 0
-    if progress is not None:
-        slices = SLICES * read(pieces[0]).settings.time_cost
-    number = _compute(call, options, _with_lengths(pieces), memory, progress, slices)
-    if new is not None and number == NEEDS_REHASH:
-        return True
+    call, options = _library.proved_argon2_verify_encoded_with, _options_within(limits)
+    _require(_compute(call, options, _with_lengths(pieces), memory, progress, *_slices_of(pieces[0], progress)))
+
+
+def renew_pieces(
+    pieces: "Sequence[bytes]",
+    limits: "Optional[NumberLimits]",
+    memory: "Optional[Memory]",
+    progress: "Optional[Progress]",
+    new: "Tuple[Settings, int, int]",
+) -> "Optional[bytes]":
+    """Verify five pieces: an encoded hash, password, secret, another secret for new hashes or nothing, and associated
+    data. `new` has the settings and the length of the salt of new hashes, and the length of their text, or 0 if there
+    can be none. Return a new encoded hash, or `None` if there is nothing to store.
+
+    Raises `Refused` as `verify_pieces` does.
+    """
+    settings, salt_length, length = new
+    text = None
+    with suppress(Refused):  # Without memory for a new hash, the old one stays.
+        text = _buffer(length)
+    call, options = _library.proved_argon2_password_renew, _options_within(limits)
+    options.new_settings, options.new_salt_len = ctypes.pointer(settings), salt_length
+    slices = [*_slices_of(pieces[0], progress), SLICES * settings.time_cost]
+    number = _compute(call, options, [*_with_lengths(pieces), text, len(text or b"")], memory, progress, *slices)
+    if text is not None and number == NEEDS_REHASH:
+        return text.value
     _require(number)
-    return False
+    return None
 
 
 def verify_unknown(
@@ -351,7 +367,7 @@ def tuned(most: Settings, nanoseconds: int, progress: "Optional[Progress]") -> "
     """Search for settings with at most the memory of `most`. Return `None` if none is fast enough."""
     found = Tuned()
     call, options = _library.proved_argon2_tune, _options(most.lanes)
-    number = _compute(call, options, [most, nanoseconds, found], None, progress, 0)
+    number = _compute(call, options, [most, nanoseconds, found], None, progress)
     if number == TOO_COSTLY:
         return None
     _require(number)
@@ -360,6 +376,23 @@ def tuned(most: Settings, nanoseconds: int, progress: "Optional[Progress]") -> "
 
 def _options(threads: int) -> Options:
     return Options(ctypes.sizeof(Options), threads)
+
+
+def _options_within(limits: "Optional[NumberLimits]") -> Options:
+    options = _options(MAX_NUMBER)
+    if limits is not None:
+        options.limits = ctypes.pointer(limits)
+    return options
+
+
+def _slices_of(text: bytes, progress: "Optional[Progress]") -> "List[int]":
+    """Return how many slices the hash of a text has, if a callback is to be told."""
+    return [] if progress is None else [SLICES * read(text).settings.time_cost]
+
+
+def text_length(settings: Settings, salt_length: int) -> int:
+    """Return the length of an encoded hash with these settings, and of the zero behind it."""
+    return int(_library.proved_argon2_encoded_len(settings, salt_length)) + 1
 
 
 def buffers_new(memory_cost: int, most: int) -> int:

@@ -1,14 +1,17 @@
 """`PasswordHasher`, and the deprecated calls that argon2-cffi had before it."""
 import os
 import warnings
+from contextlib import contextmanager
 
 from ._library import (
     DECODING_FAIL,
     Refused,
     Settings,
     read,
+    renew_pieces,
     require_bytes,
     require_number,
+    text_length,
     verify_pieces,
     verify_unknown,
 )
@@ -35,7 +38,7 @@ from .profiles import RFC_9106_LOW_MEMORY
 
 TYPE_CHECKING = False
 if TYPE_CHECKING:
-    from typing import Any, Literal, Optional, Tuple, Union
+    from typing import Any, Iterator, Literal, Optional, Tuple, Union
 
     from ._library import Progress
 
@@ -246,7 +249,9 @@ class PasswordHasher:
         encoded hash. Raises `VerificationError` if the rest of it is invalid, its settings are rejected or memory
         cannot be allocated. Raises `UnicodeEncodeError` as `hash()` does.
         """
-        self._verify(hash, password, associated_data, progress, self)
+        encoded, pieces = self._pieces(hash, password, associated_data)
+        with _verifying(encoded):
+            verify_pieces((encoded, *pieces), self._numbers, self._memory or current_thread.memory, progress)
         return True
 
     def verify_and_update(
@@ -262,21 +267,23 @@ class PasswordHasher:
 
         The second value is `None` if there is nothing to store: if the password does not match, or the hash has these
         settings and a salt of this length, or the new hash cannot be computed. The new hash has the same associated
-        data. `renew_by` is another hasher, which makes the new hash.
+        data. `renew_by` is another hasher, whose settings and secret the new hash has. It may not lack a secret if this
+        hasher has one.
 
         Raises what `verify` raises, except for a wrong password.
         """
         hasher = self if renew_by is None else renew_by
+        encoded, (given, secret, data) = self._pieces(hash, password, associated_data)
+        if secret and not hasher._secret:
+            raise ValueError("'renew_by' must have a secret, since this hasher has one")
+        pieces = encoded, given, secret, b"" if hasher._secret == secret else hasher._secret, data
         try:
-            is_due = self._verify(hash, password, associated_data, progress, hasher)
+            with _verifying(encoded):
+                text = renew_pieces(
+                    pieces, self._numbers, self._memory or current_thread.memory, progress, hasher._renewal())
         except VerifyMismatchError:
             return False, None
-        if not is_due:
-            return True, None
-        try:
-            return True, hasher.hash(password, associated_data=associated_data, progress=progress)
-        except (HashingError, MemoryError):
-            return True, None
+        return True, None if text is None else text.decode("ascii")
 
     def verify_unknown(
         self, password: "Union[str, bytes]", *, progress: "Optional[Progress]" = None
@@ -303,30 +310,22 @@ class PasswordHasher:
         """
         return self._parameters != extract_parameters(hash)
 
-    def _verify(
-        self,
-        hash: "Union[str, bytes]",
-        password: "Union[str, bytes]",
-        associated_data: bytes,
-        progress: "Optional[Progress]",
-        hasher: "PasswordHasher",
-    ) -> bool:
-        """Verify a password. Return whether a hash of another hasher has another secret, settings or length of salt.
-
-        As in argon2-cffi, a string that does not begin as an encoded hash raises `InvalidHashError`, and all other
-        strings that cannot be decoded raise `VerificationError`.
-        """
+    def _pieces(
+        self, hash: "Union[str, bytes]", password: "Union[str, bytes]", associated_data: bytes
+    ) -> "Tuple[bytes, Tuple[bytes, bytes, bytes]]":
+        """Return an encoded hash, and what it depends on: the password, the secret and the associated data."""
         require_bytes(associated_data=associated_data)
-        encoded, secret = _encoded_bytes(hash), self._password_bytes(password)
-        pieces, new = (encoded, secret, self._secret, associated_data), (hasher._settings(), hasher.salt_len)
+        return _encoded_bytes(hash), (self._password_bytes(password), self._secret, associated_data)
+
+    def _renewal(self) -> "Tuple[Settings, int, int]":
+        """Return the settings, the length of the salt and that of the text of new hashes, or 0 if none can be made."""
+        settings = self._settings()
         try:
-            has_others = verify_pieces(
-                pieces, self._numbers, self._memory or current_thread.memory, progress, new)
-        except Refused as refused:
-            if refused.number == DECODING_FAIL and not encoded.startswith(_BEGINNINGS):
-                raise InvalidHashError(str(refused)) from None
-            raise verifying_error(refused) from None
-        return has_others or hasher._secret != self._secret
+            for name in ("memory_cost", "time_cost", "parallelism", "hash_len", "salt_len"):
+                require_number(name, getattr(self, name), HashingError)
+            return settings, self.salt_len, text_length(settings, self.salt_len) if self.salt_len else 0
+        except (HashingError, Refused):
+            return settings, 0, 0
 
     def _settings(self) -> Settings:
         """Return the settings as the library takes them: `ctypes` passes only the lowest 32 bits of each number."""
@@ -339,6 +338,21 @@ class PasswordHasher:
         if not isinstance(password, bytes):
             raise TypeError(f"'password' must be str or bytes, not {password.__class__.__name__}")
         return password
+
+
+@contextmanager
+def _verifying(encoded: bytes) -> "Iterator[None]":
+    """Raise the exception of `verify` for what the library refused.
+
+    As in argon2-cffi, a string that does not begin as an encoded hash raises `InvalidHashError`, and all other strings
+    that cannot be decoded raise `VerificationError`.
+    """
+    try:
+        yield
+    except Refused as refused:
+        if refused.number == DECODING_FAIL and not encoded.startswith(_BEGINNINGS):
+            raise InvalidHashError(str(refused)) from None
+        raise verifying_error(refused) from None
 
 
 def _warn(name: str) -> None:
