@@ -115,6 +115,14 @@ static napi_value check_encoded(napi_env env, napi_callback_info info)
         env, proved_argon2_check_encoded(of[0].at, of[0].len, of[1].at, lengths[0], lengths[1], lengths[2], of[3].at));
 }
 
+static napi_value hashes_at_once(napi_env env, napi_callback_info info)
+{
+    part of[2];
+    take(env, info, of, 2);
+    const uint64_t *const bytes = of[1].at;
+    return number(env, proved_argon2_hashes_at_once(of[0].at, *bytes));
+}
+
 /* ---- runs */
 
 static uint32_t compute_hash(proved_argon2_options *with, const part *of)
@@ -420,8 +428,8 @@ napi_value napi_register_module_v1(napi_env env, napi_value exports)
         const char *name;
         napi_callback call;
     } calls[] = {{"check", check}, {"checkEncoded", check_encoded}, {"needsRehash", needs_rehash},
-        {"encodedLength", encoded_len}, {"hash", hash}, {"hashEncoded", hash_encoded}, {"verify", verify},
-        {"renew", renew}, {"verifyUnknown", verify_unknown}, {"tune", tune}};
+        {"encodedLength", encoded_len}, {"hashesAtOnce", hashes_at_once}, {"hash", hash}, {"hashEncoded", hash_encoded},
+        {"verify", verify}, {"renew", renew}, {"verifyUnknown", verify_unknown}, {"tune", tune}};
     static pthread_once_t once = PTHREAD_ONCE_INIT;
     pthread_once(&once, make_pool);
     for (size_t i = 0; i < sizeof calls / sizeof *calls; i++) {

@@ -3,7 +3,7 @@ import { allocate, copyOf, Inputs } from './bytes.js';
 import { MISMATCH, NEEDS_REHASH, Rejected, TOO_COSTLY, check, errorOf } from './codes.js';
 import { Encoder, phcOf } from './encoder.js';
 import { Argon2Error } from './errors.js';
-import { Line, Progress } from './line.js';
+import { Line } from './line.js';
 import { openCalls, runInPlace } from './module.js';
 import { addonFor, runByThreads } from './native.js';
 import {
@@ -12,6 +12,7 @@ import {
 import { canStartWorkers } from './platform.js';
 import { runByWorkers } from './pool.js';
 import { lanesOf } from './run.js';
+import { Progress } from './turns.js';
 
 /** The maximum number of threads that verify a stored string, as in the library's other languages. */
 const MAX_THREADS_OF_STRING = 16;

@@ -4,9 +4,9 @@ import { allocate } from './bytes.js';
 import { check, deniedOr, OK, Rejected, STOPPED } from './codes.js';
 import { limitsAsNumbers } from './encoder.js';
 import { Unsupported } from './errors.js';
-import { Places } from './line.js';
 import { nodeThreads, processors } from './platform.js';
-import { hashLengthOf } from './run.js';
+import { hashLengthOf, sizeOf } from './run.js';
+import { Places } from './turns.js';
 
 /** The threads that compute: at most one for each processor. */
 const computing = new Places(processors);
@@ -44,6 +44,18 @@ export function addonFor(native) {
         throw new Unsupported(`${words}: ${cause.message}`, { cause });
     }
     return addon;
+}
+
+/**
+ * How many hashes fit into some bytes at a time. The addon's library counts the whole huge pages that it requests. The
+ * engine allocates the memory of WebAssembly, and requests none.
+ */
+export function hashesAtOnce(settings, bytes) {
+    const addon = addonFor();
+    if (addon) {
+        return addon.hashesAtOnce(Uint32Array.from(settings), BigUint64Array.of(BigInt(Math.floor(bytes))));
+    }
+    return Math.floor(bytes / sizeOf(settings));
 }
 
 /** Allocates a tag. The engine may deny the memory. */

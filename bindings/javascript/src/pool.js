@@ -3,9 +3,9 @@
 // password does not stop a server.
 import { Rejected, STOPPED, WORKER_REFUSED } from './codes.js';
 import { LaneWorker } from './lane_worker.js';
-import { Places } from './line.js';
 import { compiledModule } from './module.js';
 import { canShare, processors } from './platform.js';
+import { Places } from './turns.js';
 
 /** The workers that have a call. */
 const working = new Places(processors);

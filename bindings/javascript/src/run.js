@@ -8,14 +8,17 @@ import { Place, pointer, STACK } from './memory.js';
 
 const SLICES = 4;
 const BLOCK = 1024;
-/** How many numbers proved_argon2_settings has, and the places of the lanes and of the hash's length in it. */
+/** How many numbers proved_argon2_settings has, and the places of some of them in it. */
 export const SETTINGS = 6;
+const MEMORY_COST = 2;
 const LANES = 4;
 const HASH_LENGTH = 5;
 /** The offset of a job's numbers, behind H0. */
 const NUMBERS = 64;
 const JOB = NUMBERS + 6 * 4;
 
+/** About how many bytes the blocks take. */
+export const sizeOf = (settings) => BLOCK * settings[MEMORY_COST];
 export const lanesOf = (settings) => settings[LANES];
 export const hashLengthOf = (settings) => settings[HASH_LENGTH];
 

@@ -215,6 +215,9 @@ test('by default as many calls compute as fit into processors and memory, and 16
         assert.deepEqual([boundsOf(1, 0), boundsOf(0.5, 0), boundsOf(1, 0.25), boundsOf(0.25, 2 ** 30)], [9, 6, 3, 3]);
         assert.deepEqual([boundsOf(1, 0, { parallelism: 4 }), boundsOf(64, 0, { parallelism: 10 })], [2, 1]);
         assert.deepEqual([boundsOf(1, 0, { memoryCost: 2 ** 18 }), boundsOf(1, 0, { memoryCost: 2 ** 20 })], [1, 1]);
+        // The addon's memory is whole huge pages, here two.
+        const isNative = process.env.PROVED_ARGON2_NATIVE !== '0';
+        assert.equal(boundsOf(1 / 8, 0, { memoryCost: 2052 }), isNative ? 8 : 9);
     } finally {
         Object.assign(os, { availableParallelism, totalmem });
         Object.assign(process, { constrainedMemory });

@@ -223,7 +223,7 @@ for (const [what, [native, count, limit]] of Object.entries(COMPUTING)) {
 }
 
 test('a call that is stopped as its turn comes does not take the turn of another', async () => {
-    const { Places, Progress } = await import(new URL('line.js', import.meta.resolve('proved-argon2')));
+    const { Places, Progress } = await import(new URL('turns.js', import.meta.resolve('proved-argon2')));
     const places = new Places(() => 2);
     const controller = new AbortController();
     assert.equal(places.take(3), 2);
