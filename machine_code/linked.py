@@ -124,11 +124,6 @@ class Code:
             raise Fault(f'there are {len(begins)} functions {name}')
         return begins[0]
 
-    @staticmethod
-    def begin(address):
-        """Returns the first instruction of a function, which is where it begins."""
-        return address
-
     def at(self, address):
         """Returns an instruction, its size, and the step that it takes."""
         if address not in self.instructions:

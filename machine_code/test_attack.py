@@ -22,8 +22,6 @@ from validated import FLAGS, FUNCTIONS, IDLE, builds_of, code_of
 
 RELEASE, SEED = TOP / 'release', os.environ.get('SEED') or random.randrange(1 << 32)
 FILES = 'x86_64/libproved_argon2.a', 'aarch64/libproved_argon2.a', 'wasm32/proved_argon2.wasm'
-# This module has the same instructions, except for the numbers of the functions that are called.
-SAME = 'wasm32/proved_argon2_shared.wasm'
 # The function that prefetches ahead has code of its own in the first file; in the others it calls the compression.
 ATTACKED = [(name, function) for name in FILES for function in FUNCTIONS if function.name != AHEAD or name == FILES[0]]
 DRAWN, LEAST_FOUND, UNTIL_FORGOTTEN, SHARED = 100, 0.85, 100, 'x86_64/libproved_argon2.so.1.0.0'
@@ -125,14 +123,6 @@ def test_each_change_is_found_or_computes_the_same(name, function):
         attacked.change_constants()
         print(f'{attacked.found} changes are found, and compute the same: {attacked.same}')
         assert attacked.found >= LEAST_FOUND * attacked.tried and attacked.tried >= DRAWN
-
-
-def test_both_modules_have_the_same_instructions():
-    """One attack covers both for this reason."""
-    texts = [[re.sub(r'^call .*', 'call', text) for function in FUNCTIONS for begin in code.begins(function)
-              for text, _ in code.bodies[begin].values() if not text.startswith('local[')]
-             for code in (code_of(RELEASE / name) for name in (FILES[-1], SAME))]
-    assert texts[0] and texts[0] == texts[1]
 
 
 @pytest.mark.parametrize('text', DOING_MORE)

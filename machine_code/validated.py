@@ -58,7 +58,7 @@ class Function:
         words = numbers or words
         try:
             machine.enter([*map(variable, regions), *words, half_known(flag) if machine.arguments else flag])
-            machine.run(code.begin(begin))
+            machine.run(begin)
             defined = self.definition(flag, *regions.values(), *([words] if words else []))
             return machine, machine.fault(defined, self.cleared)
         except (Fault, TypeError, ValueError, LookupError, AttributeError) as fault:
@@ -76,7 +76,7 @@ FUNCTIONS = (
 FLAGS = 0, 1
 ON_TERMS = {processor: type('OnTerms', (processor, Machine), {}) for processor in (X86, Arm64, Wasm)}
 # Instructions that do nothing, and need not run.
-IDLE = re.compile(r'local\[|end$|unreachable$|(data16 |cs )*nop|xchg +ax,ax|int3')
+IDLE = re.compile(r'end$|unreachable$|(data16 |cs )*nop|xchg +ax,ax|int3')
 
 
 def code_of(path):

@@ -12,7 +12,7 @@ from terms import BITS, Fault, variable
 TYPE = re.compile(r' - type\[(\d+)\] \((.*)\) -> \w+')
 SIGNATURE = re.compile(r' - func\[(\d+)\] sig=(\d+)')
 HEAD = re.compile(r'[0-9a-f]+ func\[(\d+)\](?: <.*>)?:')
-LINE = re.compile(r' ([0-9a-f]+):((?: [0-9a-f]{2})+) +\| *(.*)')
+LINE = re.compile(r' ([0-9a-f]+):((?: [0-9a-f]{2})+) +\| *(?! |local\[)(.*)')
 OPENS, LOW = ('block', 'loop'), (1 << 32) - 1
 # A function with more multiplications than this may compress blocks; computing sizes and parsing numbers needs fewer.
 MANY = 8
@@ -21,7 +21,8 @@ STACK_POINTER, LEAST_STACK, NO_STACK = '0', 16, variable('the stack has no room'
 
 
 class Module:
-    """The instructions of a module by their places in the file, and those of each function by its number (`bodies`)."""
+    """The instructions of a module by their places in the file; the same for each function by where it begins
+    (`bodies`), which is known by its number (`begin`)."""
     clears = ()
 
     def __init__(self, path):
@@ -30,35 +31,28 @@ class Module:
         self.exports = '\n'.join(line for line in lines if ' -> "' in line)
         counts = {found[1]: len(found[2].split()) for found in map(TYPE.fullmatch, lines) if found}
         self.arguments = {found[1]: counts[found[2]] for found in map(SIGNATURE.match, lines) if found}
-        self.bodies, body, at = {}, {}, 0
+        bodies, body, at = {}, {}, 0
         for head, found in ((HEAD.fullmatch(line), LINE.fullmatch(line)) for line in lines):
             if head:
-                body = self.bodies[head[1]] = {}
+                body = bodies[head[1]] = {}
             elif found:
                 size = len(bytes.fromhex(found[2]))
                 if found[3]:
                     at, body[at] = int(found[1], 16), (found[3].split(' <')[0], size)
                 else:  # (the rest of the bytes of the instruction before)
                     body[at] = body[at][0], body[at][1] + size
-        self.instructions = {at: instruction for body in self.bodies.values() for at, instruction in led(body)}
+        self.begin = {number: min(body) for number, body in bodies.items()}
+        self.bodies = {min(body): body for body in bodies.values()}
+        self.instructions = {at: instruction for body in bodies.values() for at, instruction in led(body)}
 
     def at(self, address):
         text, size, to = self.instructions[address]
         return text, size, decode(text, to)
 
     @staticmethod
-    def place(address):
-        """Returns where in the file an instruction is."""
-        return address
-
-    @staticmethod
     def constant(address):
         """Neither function has constants in memory."""
         raise Fault(f'it reads at {address:#x}')
-
-    def begin(self, number):
-        """Returns the first instruction of a function."""
-        return next(at for at, (text, _) in self.bodies[number].items() if not text.startswith('local['))
 
     def traps(self, address):
         """Returns whether a jump leads to nothing but a trap."""
@@ -69,19 +63,20 @@ class Module:
         """Fails unless this is a valid module."""
         run('wasm-validate', '--enable-memory64', '--enable-threads', self.path)
 
-    def calls(self, number):
+    def calls(self, begin):
         """Returns how many instructions call a function, except for those of AHEAD, which only calls it."""
-        return sum(text == f'call {number}' for at, body in self.bodies.items() if at not in self.behind(AHEAD)[-1:]
-                   for text, _ in body.values())
+        number, (ahead,) = next(name for name in self.begin if self.begin[name] == begin), self.behind(AHEAD)[-1:]
+        return sum(text == f'call {number}' for at in {*self.bodies} - {ahead} for text, _ in self.bodies[at].values())
 
     def behind(self, export):
         """Returns the functions that an exported one leads to, itself first: each passes its last argument on to the
         next. The third one is what was proved."""
         numbers = re.findall(rf' - func\[(\d+)\].* -> "{export}"', self.exports)
         for number in numbers:
-            numbers += [text.removeprefix('call ') for (before, _), (text, _) in pairwise(self.bodies[number].values())
+            body = self.bodies[self.begin[number]].values()
+            numbers += [text.removeprefix('call ') for (before, _), (text, _) in pairwise(body)
                         if before.startswith('local.get ') and text.startswith('call ')]
-        return numbers[:3]
+        return [self.begin[number] for number in numbers[:3]]
 
     def multiplications(self):
         """Returns the instructions with which blocks can be made."""
@@ -90,14 +85,13 @@ class Module:
 
     def begins(self, function):
         """Returns the functions with the instructions (`only`) that identify this one, or that its export leads to."""
-        return [number for number, body in self.bodies.items()
+        return [begin for begin, body in self.bodies.items()
                 if {*function.only} <= {text for text, _ in body.values()}] if function.only else \
             self.behind(function.name)[-1:]
 
 
 def led(body):
     """Yields the instructions of a function, each with where a jump leads, and the last one with RETURN."""
-    body = {at: instruction for at, instruction in body.items() if not instruction[0].startswith('local[')}
     begun, targets, jumps, last = [], {}, {}, [*body][-1]
     for at, (text, _) in body.items():
         name, *words = text.split()
@@ -196,9 +190,8 @@ OPERATIONS = {
     'i64.shr_u': (2, lambda _, x, count: right(x, count % BITS)),
     'i64.rotl': (2, lambda _, x, count: rotated(x, -count % BITS)),
     'i64.lt_s': (2, lambda machine, x, y: machine.lacks_stack(y, x)),
-    'i64.lt_u': (2, lambda machine, x, y: machine.compared(y, x, 'b')),
-    'i64.gt_u': (2, lambda machine, x, y: machine.compared(y, x, 'a')),
-    'i32.ne': (2, lambda machine, x, y: machine.compared(y, x, 'ne')),
+    **{name: (2, lambda machine, x, y, condition=condition: machine.compared(y, x, condition))
+       for name, condition in (('i64.lt_u', 'b'), ('i64.gt_u', 'a'), ('i32.ne', 'ne'))},
     **dict.fromkeys(('i64.eqz', 'i32.eqz'), (1, lambda machine, x: machine.compared(0, x, 'e'))),
     'i32.wrap_i64': (1, Wasm.cut),
     'i64.load': (1, lambda machine, address, offset: machine.load(add(address, offset), WORD)),
@@ -212,7 +205,7 @@ def call(number):
     def step(machine):
         arguments = [machine.pop() for _ in range(machine.code.arguments[number])]
         machine.enter(arguments[::-1])
-        return True, machine.code.begin(number)
+        return True, machine.code.begin[number]
     return step
 
 
