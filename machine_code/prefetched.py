@@ -4,8 +4,6 @@ that block and a return, or of a return alone, so it changes nothing and no resu
 import re
 
 NAME = 'argon2_c::prefetching::proved_argon2_expect'
-# The names under which a file has calls for C.
-OF_C = re.compile(r'proved_\w+_job_hash_over')
 PREFETCH = re.compile(r'prefetcht0 BYTE PTR \[rdi(?:\+(0x[0-9a-f]+))?\]|prfm\tpldl1keep, \[x0(?:, #(\d+))?\]')
 # Its instructions in a module, where it first asks whether the stack has room.
 IN_MODULE = ['block', 'global.get 0', 'i64.const 16', 'i64.lt_s', 'br_if 0', 'i64.const 0', 'return', 'end',
@@ -36,16 +34,11 @@ def faults_of_module(module):
     return [] if IN_MODULE in bodies[-1:] else ['it does more than prefetch']
 
 
-def builds_for_c(code, builds):
-    """Returns the builds of a file that has calls for C, as each module has."""
-    return builds if not hasattr(code, 'names') or any(map(OF_C.fullmatch, code.names.values())) else []
-
-
 def faults_of_prefetches(code, builds, idle):
-    """Returns what is wrong with the function in a file, for each of its builds if the file has calls for C."""
+    """Returns what is wrong with the function in a file, for each of its builds."""
     if not hasattr(code, 'names'):
         return faults_of_module(code)
     bodies = [[text for text, _ in code.bodies[begin].values()] for begin in begins(code)]
-    if len(bodies) != len(builds_for_c(code, builds)):
+    if len(bodies) != len(builds):
         return [f'{NAME} is there {len(bodies)} times']
     return [f'{NAME}: {fault}' for texts in bodies for fault in faults_of_body(texts, idle)]

@@ -1,5 +1,5 @@
 """Translation validation of release/: the machine code of the compression computes G of RFC 9106, and that of BLAKE2b's
-compression F of RFC 7693, for all inputs, in each file and each build. Neither branches on anything except the flag
+compression F of RFC 7693, for all inputs, in each library and each build. Neither branches on anything except the flag
 that it is passed, computes an address from data, accesses memory except its arguments, constants and own frame, or
 changes registers that it may not. F clears its working vector. What fills a block for C, and in one build prefetches
 the next one's reference, has to compute G too, and may compute addresses of prefetches from data.
@@ -19,8 +19,9 @@ from terms import BITS
 from validated import FLAGS, FUNCTIONS, code_of, faults_of
 
 LISTED = re.findall(r'^[0-9a-f]{64}  (\S+)$', (TOP / 'release/MANIFEST').read_text(encoding='utf-8'), re.M)
-# An import library has no code but jumps.
-FILES = [CHOSEN] if CHOSEN else [name for name in LISTED if not re.search(r'\.([ch]|dll\.a)$', name)]
+# Other files have the same functions: test_verdict.py compares these, and test_linked.py links the files again.
+FILES = [CHOSEN] if CHOSEN else [
+    name for name in LISTED if re.search(r'libproved_argon2\.(a|so\S+)$|\.(dll|wasm)$', name)]
 PLACES, BLOCK, LINE = 30, 1024, 64  # (drawn for a test; in bytes)
 
 

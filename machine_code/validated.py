@@ -10,7 +10,7 @@ from arm64 import Arm64
 from linked import AHEAD, Code
 from machine import WORD, Machine, half_known
 from machines import machines
-from prefetched import builds_for_c, faults_of_prefetches
+from prefetched import faults_of_prefetches
 from terms import Fault, variable
 from wasm import Module, Wasm
 from x86 import X86
@@ -31,8 +31,7 @@ def compressed_state(flag, h, m, counter):
 class Function:
     """A function's name; what it is passed before the flag: regions of memory, by their sizes in words, and words; what
     it leaves in one of the regions; and how many words of its own frame it clears. In a module, which may have no
-    names, certain instructions identify it, or else its export. In each build, this many instructions call it, and so
-    many fewer in a program, which fills no two lanes by turns."""
+    names, certain instructions identify it, or else its export. In each build, this many instructions call it."""
     name: str
     regions: dict
     words: tuple
@@ -41,7 +40,6 @@ class Function:
     cleared: int
     only: tuple
     calls: int
-    for_pairs: int = 0
 
     def run(self, code, begin, flag, entry, values=None, numbers=()):
         """Runs over values, or else a variable for each word; returns the machine, and what is wrong or None. The words
@@ -68,7 +66,7 @@ class Function:
 
 FUNCTIONS = (
     Function('fill_words', {'prev': 128, 'reference': 128, 'next': 128}, (), 'next', compressed_block, 0,
-             ('i64.mul', 'i64.rotl'), 10, 4),
+             ('i64.mul', 'i64.rotl'), 10),
     Function(AHEAD, {'prev': 128, 'reference': 128, 'next': 128}, ('size', 'columns'), 'next', compressed_block, 0,
              (), 3),
     Function('compress_f', {'h': 8, 'm': 16}, ('low', 'high'), 'h', compressed_state, 16,
@@ -101,14 +99,9 @@ def faults_of_function(code, function, begin):
         faults.add(f'it looks {below} times at what is below the stack pointer')
     if missed and not faults:
         faults.add(f'it is not run: {missed}')
-    if code.calls(begin) != function.calls - (0 if builds_for_c(code, [True]) else function.for_pairs):
+    if code.calls(begin) != function.calls:
         faults.add(f'{code.calls(begin)} instructions call it')
     return [f'{function.name} at {begin}: {fault}' for fault in faults], met
-
-
-def builds_with(function, path, code):
-    """Returns the builds of a file that have a function."""
-    return builds_for_c(code, builds_of(path)) if function.name == AHEAD else builds_of(path)
 
 
 def faults_of(path):
@@ -119,8 +112,7 @@ def faults_of(path):
     except Fault as fault:
         return [str(fault)]
     places = [(function, begin) for function in FUNCTIONS for begin in code.begins(function)]
-    missing = [function.name for function in FUNCTIONS
-               if len(code.begins(function)) != len(builds_with(function, path, code))]
+    missing = [function.name for function in FUNCTIONS if len(code.begins(function)) != len(builds_of(path))]
     came = [faults_of_function(code, *place) for place in places]
     others = code.multiplications().difference(*(met for _, met in came))
     return [*(fault for faults, _ in came for fault in faults),
