@@ -20,6 +20,7 @@ import calls  # noqa: E402
 import clearing  # noqa: E402
 import comparison  # noqa: E402
 import first_blocks  # noqa: E402
+import order  # noqa: E402
 import prehash  # noqa: E402
 import presets  # noqa: E402
 import segments  # noqa: E402
@@ -40,7 +41,7 @@ STATEMENTS = {
     'filling::fill_dependent': (segments.prove_dependent, ((0, True),)),
     'filling::fill_caller_segment': (segments.prove_segment, segments.CASES)}
 # The statements about byte strings, settings and whole calls: by a function's name, what proves it, and the file.
-MODULES = (blake2b, calls, clearing, comparison, first_blocks, prehash, presets, settings, steps, tag,
+MODULES = (blake2b, calls, clearing, comparison, first_blocks, order, prehash, presets, settings, steps, tag,
            variable_length_hash)
 OF_BYTES = {name: (prove, f'{module.__name__}.py') for module in MODULES for name, prove in module.STATEMENTS.items()}
 SLOW = 'blake2b', 'are_equal'  # (minutes, so in one build)
@@ -55,8 +56,6 @@ NOT_COVERED = {
     **dict.fromkeys(('positions::reference_positions', 'filling::write_blocks', 'pairs::fill_caller_pair',
                      'pairs::fill_dependent_pair', 'pairs::expected_reference'),
                     'no statement yet: segments that depend on no block, and pairs of lanes'),
-    **dict.fromkeys(('caller_blocks::hash_job_over', 'caller_blocks::fill_caller_slice', 'steps::fill',
-                     'steps::fill_lanes'), 'no statement yet: the order of segments'),
     **dict.fromkeys(('jobs::make_stored', 'encoded_hash::head_of', 'letters::is_item', 'letters::three_bytes',
                      'salt_and_hash::read_item', 'salt_and_hash::put_hash', 'placing::put_number'),
                     'no statement yet: the text'),
