@@ -85,10 +85,9 @@ STEPS = (
          'say, for all inputs', (
              Part('both compression functions', files='machine_code/test_machine_code.py', quick='x86_64/libproved_argon2.so'),
              Part('what statements say', files='machine_code/test_formulas.py', quick=''),
-             Part('segments', files='machine_code/test_statements.py', tests='not planted', quick='pick',
-                  other='as_stated'),
+             Part('segments', files='machine_code/test_statements.py', quick='pick', other='as_stated'),
              *(Part(f'byte strings of {build}', files='machine_code/test_byte_strings.py', build=build,
-                    tests=f'test_statement and {build}', quick='hprime' if build == BUILDS[-1] else None)
+                    tests=build, quick='hprime' if build == BUILDS[-1] else None)
                for build in BUILDS))),
     Step('verdicts', "the C code passes arguments and a proved call's verdict on unchanged, for all inputs", (
         Part('the way of a verdict', files='machine_code/test_verdict.py', tests='test_verdicts'),)),
