@@ -35,6 +35,7 @@ from xml.etree import ElementTree
 TOP = Path(__file__).resolve().parents[1]
 PYTEST = '/usr/bin/python3', '-B', '-P', '-m', 'pytest', '-q', '-c', 'setup.cfg', '--rootdir=.'
 SKIPPED = 77  # (the exit status of a part that says why on its last line)
+ENDING = signal.SIGINT, signal.SIGTERM, signal.SIGHUP
 PREFIX = 'PREFIX'  # (in a command: what --installed names)
 # The builds for x86-64. The newest one has all that is proved; of the others, what has another text.
 BUILDS = 'x86-64-v2', 'x86-64-v3', 'x86-64-v4'
@@ -116,6 +117,13 @@ class Stopped(Exception):
     """Somebody stopped the check."""
 
 
+def stop(*_):
+    """Ends the check at a signal. No other signal interrupts that."""
+    for number in ENDING:
+        signal.signal(number, signal.SIG_IGN)
+    raise Stopped
+
+
 class Runner:
     """Runs parts side by side, and stops them together."""
 
@@ -180,6 +188,7 @@ def judge(result, status, files):
         elif status:
             result.failed.append(last)
     elif not result.cases or status and not result.failed:
+        result.cases = max(result.cases, 1)
         result.failed.append(last or 'it checked nothing')
 
 
@@ -213,7 +222,7 @@ class Progress:
 def run_all(runner, asked, progress):
     """Runs the parts that are asked for, as many at once as there are processors, and yields their results."""
     results = []
-    with ThreadPoolExecutor(os.cpu_count()) as pool:
+    with ThreadPoolExecutor(len(os.sched_getaffinity(0))) as pool:
         waiting = [pool.submit(runner.run, *part) for part in asked]
         try:
             while waiting:
@@ -280,18 +289,24 @@ def report(options, results):
         return int(not passed)
     for name in skipped:
         print(f'skipped: {name}')
-    print('', *sentences if passed else (f'{len(failed)} of {count} cases failed, and {len(skipped)} were skipped.',),
-          sep='\n')
+    if not results:
+        sentences = 'Nothing of what was asked for runs with these options.',
+    elif not passed:
+        sentences = f'{len(failed)} of {count} cases failed, and {len(skipped)} were skipped.',
+    print('', *sentences, sep='\n')
     return int(not passed)
 
 
 def parsed(words):
     """The options."""
     parser = argparse.ArgumentParser(usage=__doc__, add_help=False)
-    for name in ('quick', 'list', 'json', 'install', 'allow-skips', 'help'):
+    for name in ('list', 'json', 'install', 'allow-skips', 'help'):
         parser.add_argument(f'--{name}', action='store_true')
-    for name in ('installed', 'library', 'results'):
+    for name in ('installed', 'results'):
         parser.add_argument(f'--{name}')
+    either = parser.add_mutually_exclusive_group()
+    either.add_argument('--quick', action='store_true')
+    either.add_argument('--library')
     parser.add_argument('--build', choices=BUILDS)
     parser.add_argument('--only', nargs='+', choices=[step.name for step in STEPS])
     return parser.parse_args(words)
@@ -313,8 +328,8 @@ def main(words):
     if why := begin(options, steps):
         print(f'./check: {why}', file=sys.stderr)
         return 2
-    for number in (signal.SIGINT, signal.SIGTERM):
-        signal.signal(number, signal.default_int_handler)
+    for number in ENDING:
+        signal.signal(number, stop)
     with tempfile.TemporaryDirectory(prefix='check-') as folder:
         runner = Runner(options, Path(folder))
         asked = [(step, part, command) for step in steps for part in step.parts
@@ -322,7 +337,7 @@ def main(words):
         progress = Progress(options, [part.name for _, part, _ in asked])
         try:
             results = run_all(runner, asked, progress)
-        except (KeyboardInterrupt, Stopped):
+        except Stopped:
             runner.stop()
             print('stopped', file=sys.stderr)
             return 130
