@@ -53,11 +53,12 @@ def drawn():
     whole = WIDTH - 2 * LEFT
     left, low = column(LEFT, HALF, TOP + BOX, [
         ('read', ['by you: docs/DEFINITIONS.md'], 82, 'definitions in Rattle'),
-        ('proved', ['by a prover that is closed'], 82, 'code in Rattle'),
+        ('proved', ['by a closed prover'], 82, 'code in Rattle'),
         ('trusted', ['the compiler'], 82, '')])
     right, _ = column(RIGHT, HALF, TOP + BOX, [
         ('read', ['by you, and tested with vectors'], 82, 'definitions in Python'),
-        ('checked', ['by Z3: the functions that', 'machine_code/ lists as covered'], low - TOP - 2 * BOX - 82, '')])
+        ('checked', ['by Z3: the functions that', 'machine_code/ lists as covered'], 90, ''),
+        ('tested', ['the others, by random hashes'], low - TOP - 2 * BOX - 82 - 90, '')])
     below, end = column(LEFT, whole, low + BOX, [
         ('checked', ['by Z3: C passes arguments and verdicts on'], 70, 'calls of the C library'),
         ('tested', ['memory, threads, and the packages'], 70, 'your program')])
