@@ -59,7 +59,7 @@ class Part:
     def words(self, options, results):
         """The command, or None if it does not run with these options."""
         if options.quick and self.quick is None or PREFIX in self.command and not options.installed \
-                or options.build and self.build and self.build != options.build:
+                or self.build and self.build not in options.builds:
             return None
         if self.command:
             return [options.installed if word == PREFIX else word for word in self.command]
@@ -131,7 +131,8 @@ class Runner:
         self.options, self.folder, self.running, self.is_stopped = options, folder, {}, False
         self.lock = threading.Lock()
         self.environment = {**os.environ, 'PYTHONDONTWRITEBYTECODE': '1', 'TMPDIR': str(folder),
-                            **({'CHECKED_LIBRARY': str(Path(options.library).resolve())} if options.library else {})}
+                            **({'CHECKED_LIBRARY': str(Path(options.library).resolve()),
+                                'CHECKED_BUILDS': ' '.join(builds_of(options.library))} if options.library else {})}
 
     def start(self, words, results):
         with self.lock:
@@ -260,7 +261,18 @@ def begin(options, steps):
         for words in ('update',), ('install', '-y', '--no-install-recommends', *missing):
             subprocess.run(['apt-get', '-q', *words], check=False, stdout=sys.stderr, env=environment)
         missing = missing_packages(steps)
-    return f'install these packages first: apt-get install {" ".join(missing)}' if missing else None
+    if missing:
+        return f'install these packages first: apt-get install {" ".join(missing)}'
+    if options.library and not builds_of(options.library):
+        return f'{options.library} has no names of functions for x86-64. Check a library before it is stripped'
+    return None
+
+
+def builds_of(library):
+    """Which builds a library for x86-64 contains, by the names of its functions."""
+    names = subprocess.run(['nm', library], check=False, text=True, stdout=subprocess.PIPE,
+                           stderr=subprocess.DEVNULL).stdout
+    return [build for build in BUILDS if f' proved_{build.replace("-", "_")}_' in names]
 
 
 def summary(options, results):
@@ -328,6 +340,8 @@ def main(words):
     if why := begin(options, steps):
         print(f'./check: {why}', file=sys.stderr)
         return 2
+    there = builds_of(options.library) if options.library else BUILDS
+    options.builds = [build for build in there if options.build in (None, build)]
     for number in ENDING:
         signal.signal(number, stop)
     with tempfile.TemporaryDirectory(prefix='check-') as folder:

@@ -60,6 +60,7 @@ def check(tmp_path):
     ('--only skipped --quick', 1, 'Nothing of what was asked for runs'),
     ('--only lacking', 2, 'install these packages first: apt-get install no-such-package'),
     ('--only unknown', 2, 'invalid choice'),
+    ('--library /bin/true', 2, 'Check a library before it is stripped'),
     ('--quick --library good', 2, 'not allowed with')])
 def test_the_status_is_0_only_if_all_was_checked(check, words, status, said):
     output, errors = (process := check(*words.split())).communicate()
