@@ -84,7 +84,7 @@ STEPS = (
         Part('definitions and vectors', files='machine_code/test_definitions.py', quick='not vectors'),)),
     Step('machine-code', 'each function that machine_code/covered.txt lists as proved computes what the definitions '
          'say, for all inputs', (
-             Part('both compression functions', files='machine_code/test_machine_code.py', quick='x86_64/libproved_argon2.so'),
+             Part('both compression functions', files='machine_code/test_machine_code.py', quick='x86_64/libproved_argon2'),
              Part('what statements say', files='machine_code/test_formulas.py', quick=''),
              Part('segments', files='machine_code/test_statements.py', quick='pick', other='as_stated'),
              *(Part(f'byte strings of {build}', files='machine_code/test_byte_strings.py', build=build,
