@@ -46,11 +46,36 @@ def default_limits():
     return {**most, **more, 'size': size_of(m), 'work': size_of(w)}
 
 
+def constant(file, form):
+    """Returns the number that stands in a file at the place of `#` in a text."""
+    return int(re.search(re.escape(form).replace(r'\#', r'(\d+)'), read(file))[1])
+
+
 def kept_buffers():
     """<n> is how many buffers a handle has at most. One that is idle for <s> seconds, in words <idle>, is freed."""
-    n = int(re.search(r'MAX_BUFFERS (\d+)$', read('bindings/c/include/proved_argon2_service.h'), re.M)[1])
-    s = int(re.search(r'LONGEST_IDLE \((\d+) \* 1000 \* MILL', read('bindings/c/src/proved_argon2_buffers.c'))[1])
+    n = constant('bindings/c/include/proved_argon2_service.h', 'MAX_BUFFERS #')
+    s = constant('bindings/c/src/proved_argon2_buffers.c', 'LONGEST_IDLE (# * 1000 * MILLISECOND)')
     return {'n': n, 'most': f'{n:,}', 's': s, 'idle': dict(enumerate(NUMBERS.split(), 1)).get(s, s)}
+
+
+def driver_sizes():
+    """Sizes of the driver for POSIX. In MiB: a <huge> page, how much <more> memory a hash takes than it asks for, the
+    <work> for which threads start, and the largest <part> of a slice that another thread takes over. In KiB: the
+    <stack> of a thread of the library, and of its <callers>. Blocks begin at a multiple of the <line>."""
+    posix, driver = 'bindings/c/src/platform_posix.c', 'bindings/c/src/proved_argon2_driver.c'
+    huge = constant('bindings/c/src/platform.h', 'HUGE_PAGE ((size_t)# << 20)')
+    rest = constant(posix, 'LONG_REST ((size_t)# << 10)')
+    return {'huge': huge, 'more': f'{huge - rest / 1024:g}',
+            'work': huge * constant(driver, 'WORK_FOR_THREADS (# * HUGE_PAGE)'),
+            'part': constant(driver, 'SHORT_PART # ') // 1024, 'stack': 2 * constant(posix, 'STACK (# * 1024)'),
+            'callers': constant('bindings/c/include/proved_argon2.h', 'STACK_SIZE #') // 1024,
+            'line': constant(posix, 'LINE #')}
+
+
+def read_by_commands():
+    """A command reads passwords of at most <n> bytes, and so <more> bytes."""
+    more = constant('bindings/shell/words.c', 'is_limited ? # :')
+    return {'n': more - 1, 'more': more}
 
 
 def errors(first, end):
@@ -72,12 +97,13 @@ def facts():
     """Returns the items of each list of presets.txt: what their placeholders mean."""
     (original, *others), project = presets(), dict(re.findall(r'^(\w+): (.+)$', read('PROJECT'), re.M))
     names = textwrap.fill(', '.join(sorted(f'proved_argon2_{preset["name"]}' for preset in others)), 95)
-    workers = re.search(r'MAX_WORKERS: u32 = (\d+);', read('crates/argon2/src/stored.rt'))[1]
+    workers = constant('crates/argon2/src/stored.rt', 'MAX_WORKERS: u32 = #;')
     x86, arm = ([*builds(machines()[name])] for name in ('x86_64', 'aarch64'))
     return {
         'original': [original], 'presets': others, 'exports': [{'names': names.replace('\n', '\n    ')}],
         'errors': errors(0, 64), 'errors of C': errors(64, 128), 'errors of the driver': errors(128, 256),
         'limits': [default_limits()], 'kept buffers': [kept_buffers()], 'threads': [{'n': workers}],
+        'driver': [driver_sizes()], 'commands': [read_by_commands()],
         'builds': x86, 'builds for ARM64': arm,
         'project': [{**project, 'version': read('VERSION').strip()}],
     }
