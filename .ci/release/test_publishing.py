@@ -75,7 +75,8 @@ def note_that_ci_passed(copy):
 
 def test_the_page_names_the_tools_of_packages():
     tools, = re.findall(r'(?ms)^declare -Ar tools=\((.*?)^\)', read('package'))
-    needed = {*re.findall(r"(?m)(?:^|[ '])([a-z0-9][\w.+-]+):[\w/]", tools), 'python3-hatchling'}
+    # dpkg-buildpackage demands the last one, also for the source package of a PPA.
+    needed = {*re.findall(r"(?m)(?:^|[ '])([a-z0-9][\w.+-]+):[\w/]", tools), 'python3-hatchling', 'build-essential'}
     assert len(needed) > 10 and needed - {'python3', 'binutils'} <= {*commands_of('What you need').split()}
 
 
