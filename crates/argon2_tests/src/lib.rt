@@ -4,7 +4,7 @@
 #![tactic(auto)]
 
 #[cfg(test)]
-mod lengths;
+mod documentation;
 pub mod surface;
 #[cfg(test)]
 mod tests;
