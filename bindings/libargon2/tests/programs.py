@@ -1,11 +1,10 @@
-"""Debian's own programs over two libraries with libargon2's interface, Debian's and ours: PHP, cryptsetup, OpenLDAP and
-argon2-cffi answer the same. What is made over one is verified over the other too.
+"""Debian's own programs over two libraries with libargon2's interface, Debian's and ours: PHP, cryptsetup and OpenLDAP
+answer the same. What is made over one is verified over the other too.
 
     LIBARGON2=FOLDER pytest programs.py     FOLDER has libargon2.so.1
 """
 
 import contextlib
-import importlib.util
 import itertools
 import os
 import re
@@ -27,16 +26,13 @@ LDAP_SETTINGS = [f'm={memory} t={passes} p={lanes}' for memory, passes, lanes in
 LDAP_PASSWORD, INVALID_CREDENTIALS, NO_SERVER = 'correct horse', 49, 255
 PHP = shutil.which('php')
 CRYPTSETUP, SLAPD = shutil.which('cryptsetup', path='/usr/sbin:/sbin'), '/usr/lib/ldap/argon2.so'
-# argon2-cffi, whose newer versions have their module in another package.
-CFFI = [name for name in ('_argon2_cffi_bindings', 'argon2') if importlib.util.find_spec(name)]
 
 
 def needs(package, is_there):
     return pytest.mark.skipif(not is_there, reason=f'there is no {package}')
 
 
-of_php, of_cffi = needs('php-cli', PHP), needs('python3-argon2', CFFI)
-of_cryptsetup = needs('cryptsetup-bin', CRYPTSETUP)
+of_php, of_cryptsetup = needs('php-cli', PHP), needs('cryptsetup-bin', CRYPTSETUP)
 of_slapd = needs('slapd', os.path.exists(SLAPD) and shutil.which('ldapwhoami'))
 
 
@@ -58,39 +54,32 @@ def file_of(program):
     """Returns the file of a program that is linked with the library."""
     if program == 'cryptsetup':
         return re.search(r'libcryptsetup\S* => (\S+)', run('debian', 'ldd', CRYPTSETUP)[0])[1]
-    return SLAPD if program == 'slapd' else os.path.realpath(PHP) if program == 'php' \
-        else importlib.util.find_spec(f'{CFFI[0]}._ffi').origin
+    return SLAPD if program == 'slapd' else os.path.realpath(PHP)
 
 
 @pytest.mark.parametrize('program', [
     pytest.param('php', marks=of_php), pytest.param('cryptsetup', marks=of_cryptsetup),
-    pytest.param('slapd', marks=of_slapd), pytest.param('cffi', marks=of_cffi)])
+    pytest.param('slapd', marks=of_slapd)])
 def test_each_program_loads_either_library_from_its_folder(program):
     found = [re.search(r'libargon2\.so\.1 => (\S+)', run(name, 'ldd', file_of(program))[0])[1] for name in BOTH]
     assert [Path(path).resolve().is_relative_to(FOLDER) for path in found] == [False, True]
 
 
-# ---- PHP and argon2-cffi
+# ---- PHP
 
-both_languages = pytest.mark.parametrize('program', [
-    pytest.param((PHP, HERE / 'programs.php'), marks=of_php, id='php'),
-    pytest.param(('/usr/bin/python3', HERE / 'cffi.py'), marks=of_cffi, id='cffi')])
-
-
-@both_languages
+@of_php
 @pytest.mark.parametrize('maker', BOTH)
-def test_what_is_made_over_one_is_read_by_both(tmp_path, program, maker):
+def test_what_is_made_over_one_is_read_by_both(tmp_path, maker):
     """Both accept the right password alone."""
-    made = run(maker, *program, 'make')[0]
+    made = run(maker, PHP, HERE / 'programs.php', 'make')[0]
     (tmp_path / 'made').write_text(made)
-    read = answer(*program, 'check', tmp_path / 'made').splitlines()
-    assert len(read) == made.count('\n')
-    assert all(line.startswith(('[true,false', 'True VerifyMismatchError')) for line in read), read
+    read = answer(PHP, HERE / 'programs.php', 'check', tmp_path / 'made').splitlines()
+    assert len(read) == made.count('\n') and all(line.startswith('[true,false') for line in read), read
 
 
-@both_languages
-def test_errors(program):
-    answer(*program, 'errors')
+@of_php
+def test_errors():
+    answer(PHP, HERE / 'programs.php', 'errors')
 
 
 @of_php
