@@ -64,7 +64,7 @@ class Part:
         if self.command:
             return [options.installed if word == PREFIX else word for word in self.command]
         tests = self.tests, (self.quick or '') * options.quick, self.other * bool(options.library)
-        chosen = ' and '.join(filter(None, tests))
+        chosen = ' and '.join(f'({words})' for words in tests if words)
         return [*PYTEST, f'--junitxml={results}', self.files, *(['-k', chosen] if chosen else [])]
 
 
@@ -86,7 +86,7 @@ STEPS = (
          'say, for all inputs', (
              Part('both compression functions', files='machine_code/test_machine_code.py', quick='x86_64/libproved_argon2'),
              Part('what statements say', files='machine_code/test_formulas.py', quick=''),
-             Part('segments', files='machine_code/test_statements.py', quick='pick', other='as_stated'),
+             Part('segments', files='machine_code/test_statements.py', quick='pick or table', other='as_stated'),
              *(Part(f'byte strings of {build}', files='machine_code/test_byte_strings.py', build=build,
                     tests=build, quick='hprime' if build == BUILDS[-1] else None)
                for build in BUILDS))),
