@@ -21,8 +21,8 @@ from elftools.elf.elffile import ELFFile
 from machine import WORD
 from terms import Fault
 
-# A library that ./check is asked to look at, in place of those of release/.
-CHOSEN = os.environ.get('CHECKED_LIBRARY', '')
+# A library that ./check is asked to look at, in place of those of release/, and the builds that it contains.
+CHOSEN, CHOSEN_BUILDS = os.environ.get('CHECKED_LIBRARY', ''), os.environ.get('CHECKED_BUILDS', '').split()
 X86, ARM64, OBJECT = 62, 183, 1  # (numbers of ELF)
 # For each machine: the prefix of binutils' names, objdump's options, and the processor.
 KINDS = {X86: ('', ('-M', 'intel'), x86.X86), ARM64: ('aarch64-linux-gnu-', (), arm64.Arm64)}

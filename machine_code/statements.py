@@ -7,7 +7,6 @@ each build, except for the two that take minutes.
     python3 machine_code/statements.py NAME ..     proves those about some functions
 """
 
-import os
 import re
 import sys
 from collections import defaultdict
@@ -29,12 +28,12 @@ import settings  # noqa: E402
 import steps  # noqa: E402
 import tag  # noqa: E402
 import variable_length_hash  # noqa: E402
-from linked import CHOSEN, Code  # noqa: E402
+from linked import CHOSEN, CHOSEN_BUILDS, Code  # noqa: E402
 from proving import names_of  # noqa: E402
 from terms import Fault  # noqa: E402
 
 ARCHIVE = Path(CHOSEN or TOP / 'release/x86_64/libproved_argon2.a')
-BUILDS = os.environ.get('CHECKED_BUILDS', 'x86-64-v2 x86-64-v3 x86-64-v4').split()
+BUILDS = CHOSEN_BUILDS or ['x86-64-v2', 'x86-64-v3', 'x86-64-v4']
 TABLE = Path(__file__).with_name('covered.txt')
 # What is proved of a function, by the end of its name; and for which slices and passes.
 STATEMENTS = {

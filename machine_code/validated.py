@@ -7,7 +7,7 @@ from typing import Callable
 import rfc7693
 import rfc9106
 from arm64 import Arm64
-from linked import AHEAD, Code
+from linked import AHEAD, CHOSEN, CHOSEN_BUILDS, Code
 from machine import WORD, Machine, half_known
 from machines import machines
 from prefetched import faults_of_prefetches
@@ -83,6 +83,8 @@ def code_of(path):
 
 def builds_of(path):
     """Returns the builds for a file's machine."""
+    if str(path) == CHOSEN:
+        return CHOSEN_BUILDS
     folder = path.parent.name
     found = machines().get(folder.removeprefix('windows-'))
     return found.builds if found else [folder]
