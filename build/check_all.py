@@ -45,9 +45,9 @@ PACKAGES = {step: names for step, *names in (
 
 @dataclass(frozen=True)
 class Part:
-    """A command of a step. With `files`, it is pytest over them, with those tests that have all words of `tests` in
-    their names, and also those of `quick` with --quick, or those of `other` with --library. If `quick` is None, the part
-    does not run with --quick. `build` is the one build of the library that it looks at."""
+    """A command of a step. With `files`, it is pytest over them, with those tests that `tests` selects, and of these
+    only what `quick` selects with --quick, or `other` with --library. If `quick` is None, the part does not run with
+    --quick. `build` is the one build of the library that it looks at."""
     name: str
     command: tuple = ()
     files: str = ''
@@ -84,7 +84,8 @@ STEPS = (
         Part('definitions and vectors', files='machine_code/test_definitions.py', quick='not vectors'),)),
     Step('machine-code', 'each function that machine_code/covered.txt lists as proved computes what the definitions '
          'say, for all inputs', (
-             Part('both compression functions', files='machine_code/test_machine_code.py', quick='x86_64/libproved_argon2'),
+             Part('both compression functions', files='machine_code/test_machine_code.py',
+                  quick='x86_64/libproved_argon2'),
              Part('what statements say', files='machine_code/test_formulas.py', quick=''),
              Part('segments', files='machine_code/test_statements.py', quick='pick or table', other='as_stated'),
              *(Part(f'byte strings of {build}', files='machine_code/test_byte_strings.py', build=build,

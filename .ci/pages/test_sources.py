@@ -37,7 +37,7 @@ def test_each_file_of_tests_runs_in_ci():
     """`.ci/tests.txt` lists what CTest runs in CI, with the steps of ./check. Tests of C and Python run the others."""
     run_by_others = 'bindings/python/tests/', 'bindings/c/tests/test_library.py'
     tests = [name for name in files('**/test_*.py') if not name.startswith(run_by_others)]
-    steps = re.findall(r'''files=f?["'](\S+?)[ "']''', read('check'))
+    steps = re.findall(r'''files=f?["'](\S+?)[ "']''', read('build/check_all.py'))
     listed = re.findall(r'^\S+', read('.ci/tests.txt'), re.M) + steps
     assert tests and not {*tests}.difference(listed)
 
