@@ -73,8 +73,8 @@ def lost_words(first, *others):
     if first in HELP:
         return [word for word in others[:1] if HELP[first] and re.fullmatch('-*[a-z][a-z-]*', word)
                 and not re.search(WORD_IN_HELP.format(word), HELP[first])]
-    return [first] * (not text_of(first)) + [
-        word for word in others if re.fullmatch('--[a-z-]+', word) and word not in text_of(first)]
+    text = text_of(first) + text_of('build/check_all.py') * (first == './check')
+    return [first] * (not text) + [word for word in others if re.fullmatch('--[a-z-]+', word) and word not in text]
 
 
 def faults_of_links(page, text):

@@ -64,7 +64,7 @@ def test_the_texts_of_the_licences_are_the_same_wherever_they_are():
     of_debian = re.sub(r'^ \.?', '', read('debian/copyright'), flags=re.M)
     assert mit in read('LICENSE') and apache in read('LICENSE') and mit[mit.index('Permission'):] in of_debian
     assert zope in re.sub('^    ', '', read('NOTICE'), flags=re.M)
-    for name, whole in {'Apache-2.0': 'Apache-2.0', 'GPL-3.0-or-later': 'GPL-3', 'LGPL-2.1-or-later': 'LGPL-2.1'}.items():
+    for name, whole in (('Apache-2.0', 'Apache-2.0'), ('GPL-3.0-or-later', 'GPL-3'), ('LGPL-2.1-or-later', 'LGPL-2.1')):
         of_debian = Path('/usr/share/common-licenses', whole).read_text(encoding='utf-8')
         assert read(f'LICENSES/{name}.txt').split() == of_debian.split(), name
 
