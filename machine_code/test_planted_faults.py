@@ -25,6 +25,7 @@ HARMLESS = (
     ('.*', r'v?movups [XY]MMWORD PTR \[rsp.*|v?xorps +(\w+)(,\1)+', 'clears what nobody reads of its own frame'),
     ('caller_blocks::.*', r'cmp .*,0x401|setae .*', 'says which blocks are prefetched'),
     ('wipe.*', r'(cmp|ja) .*', 'clears the same in other parts'),
+    ('check', 'xor +eax,eax', 'eax is below 256, and its lowest byte is set next'),
     ('positions::pick', rf'mov +\w+,DWORD PTR \[\w+\+{segments.LENGTH:#x}\]',
      'in the first slice of the first pass, W is a part of the own segment, and its length cancels out'))
 
