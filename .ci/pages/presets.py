@@ -61,7 +61,8 @@ def kept_buffers():
 def driver_sizes():
     """Sizes of the driver for POSIX. In MiB: a <huge> page, how much <more> memory a hash takes than it asks for, the
     <work> for which threads start, and the largest <part> of a slice that another thread takes over. In KiB: the
-    <stack> of a thread of the library, and of its <callers>. Blocks begin at a multiple of the <line>."""
+    <stack> of a thread of the library, and of its <callers>, and a <rest> behind the last huge page that gets a whole
+    one. Memory that is <far> MiB or more is overwritten by blocks, and prefetched <ahead> KiB. A <line> is in bytes."""
     posix, driver = 'bindings/c/src/platform_posix.c', 'bindings/c/src/proved_argon2_driver.c'
     huge = constant('bindings/c/src/platform.h', 'HUGE_PAGE ((size_t)# << 20)')
     rest = constant(posix, 'LONG_REST ((size_t)# << 10)')
@@ -69,7 +70,16 @@ def driver_sizes():
             'work': huge * constant(driver, 'WORK_FOR_THREADS (# * HUGE_PAGE)'),
             'part': constant(driver, 'SHORT_PART # ') // 1024, 'stack': 2 * constant(posix, 'STACK (# * 1024)'),
             'callers': constant('bindings/c/include/proved_argon2.h', 'STACK_SIZE #') // 1024,
-            'line': constant(posix, 'LINE #')}
+            'line': constant(posix, 'LINE #'), 'rest': rest, 'far': constant(driver, 'FAR ((size_t)# << 20)'),
+            'ahead': constant(driver, 'AHEAD #') // 1024}
+
+
+def queues():
+    """<times> as many calls wait as compute. Node's addon keeps the memory of hashes of up to the size <kept>, and at
+    most so many <idle> threads."""
+    addon = 'bindings/javascript/addon/addon.c'
+    return {'times': constant('bindings/javascript/src/line.js', 'WAITING_FOR_EACH = #'),
+            'kept': size_of(constant(addon, 'KEPT_KIB #')), 'idle': constant(addon, 'MOST_IDLE #')}
 
 
 def read_by_commands():
@@ -103,7 +113,7 @@ def facts():
         'original': [original], 'presets': others, 'exports': [{'names': names.replace('\n', '\n    ')}],
         'errors': errors(0, 64), 'errors of C': errors(64, 128), 'errors of the driver': errors(128, 256),
         'limits': [default_limits()], 'kept buffers': [kept_buffers()], 'threads': [{'n': workers}],
-        'driver': [driver_sizes()], 'commands': [read_by_commands()],
+        'driver': [driver_sizes()], 'commands': [read_by_commands()], 'queues': [queues()],
         'builds': x86, 'builds for ARM64': arm,
         'project': [{**project, 'version': read('VERSION').strip()}],
     }
