@@ -22,10 +22,12 @@ SEED = os.environ.get('SEED') or (random.randrange(1 << 32) if IS_FULL else 1)
 PLANTED, SAMPLED = 6 if IS_FULL else 1, {*OF_BYTES, 'positions::pick', 'filling::fill_caller_segment'} - {*SLOW}
 # The functions, the instructions, and the reasons.
 HARMLESS = (
-    ('.*', r'v?movups [XY]MMWORD PTR \[rsp.*|v?xorps +(\w+)(,\1)+', 'clears what nobody reads of its own frame'),
+    ('.*', r'v?mov(ups|aps|dqu|dqa) [XY]MMWORD PTR \[rsp.*', 'clears what nobody reads of its own frame'),
+    ('.*', r'v?p?xor(ps)? +([xy]mm\d+)(,\2)+', 'makes zeros that nobody reads'),
     ('caller_blocks::.*', r'cmp .*,0x401|setae .*', 'says which blocks are prefetched'),
     ('wipe.*', r'(cmp|ja) .*', 'clears the same in other parts'),
     ('check', 'xor +eax,eax', 'eax is below 256, and its lowest byte is set next'),
+    ('positions::pick', r'(je|test) .*', 'picks in a memory of one lane as in others, or of none'),
     ('positions::pick', rf'mov +\w+,DWORD PTR \[\w+\+{segments.LENGTH:#x}\]',
      'in the first slice of the first pass, W is a part of the own segment, and its length cancels out'))
 
