@@ -3,10 +3,13 @@ block before and of the block to which the mapping refers, with the old block wh
 
 Each function is proved for a slice and for the first pass or a later one; all else may be anything that the settings
 allow: lanes, length, pass, lane, index, variant, version, and the contents of all blocks. The ghost `done` is the index
-of the next block, and `memory` names the state of the memory: no word of a block is known."""
+of the next block, `picked` says whether its reference is known, by `lane` and `column`, and `memory` names the state of
+the memory: no word of a block is known."""
+
+import copy
 
 import z3
-from loops import Loop, Looping
+from loops import WORD, Loop, Looping
 from mapping import MOST_LANES, MOST_LENGTH, FIRST_LENGTH, Words, first_index, prove_facts, reference, slice_of
 from proving import Path, beneath_unknown, low, names_of, wide
 from symbolic import number
@@ -19,6 +22,7 @@ VARIANT, VERSION, LANES, LENGTH, PASSES, PASS, SLICE, SLICES, JOB_SIZE = (
     0x40, 0x41, 0x44, 0x48, 0x4c, 0x50, 0x54, 0x58, 0x98)
 OWN_LENGTH, TALLY, OWN_SIZE = 8, 16, 24
 CASES = tuple((s, is_first) for s in range(4) for is_first in (True, False))
+UNPICKED = {'picked': number(0), 'lane': number(0, 32), 'column': number(0, 32)}
 # The first word of the block before an index of a lane's segment, in a state of the memory.
 FIRST_WORD = z3.Function('first word', *[z3.BitVecSort(64)] * 2, z3.BitVecSort(32), z3.BitVecSort(64))
 
@@ -33,6 +37,7 @@ def word(name):
 
 class Job:
     """What a fill depends on. The slice is a number."""
+    name = ''  # (before the names of its ghosts)
 
     def __init__(self, prover, s, is_first):
         self.prover, self.s, self.is_first = prover, s, is_first
@@ -40,6 +45,12 @@ class Job:
         self.pass_number = number(0, 32) if is_first else half('pass')
         self.variant, self.version = z3.BitVec('variant', 8), z3.BitVec('version', 8)
         self.own, self.slices = word('own blocks'), [word(f'slice {index}') for index in range(4)]
+
+    def next(self):
+        """The same for the next lane."""
+        other = copy.copy(self)
+        other.name, other.lane, other.own = 'other ', z3.simplify(self.lane + 1), word('other blocks')
+        return other
 
     def assumed(self):
         """The settings that the table allows, and a place in the order of slices."""
@@ -91,8 +102,19 @@ class Segments(Looping):
 
     def __init__(self, code, s, is_first, contracts, loops=()):
         super().__init__(code, contracts, loops)
-        self.job, self.path, self.beside = Job(self, s, is_first), Path(self), None
+        self.job, self.path, self.beside, self.other = Job(self, s, is_first), Path(self), None, None
         self.path.conditions += self.job.assumed()
+
+    def options(self, place, assumed, back):
+        """Other places depend on ghosts, which are not guessed for this reason."""
+        is_free = place[0] == 'ghost' and not place[1].endswith('done')
+        return [WORD] if is_free else [*super().options(place, assumed, back)]
+
+    def of_lane(self, path, lane):
+        """The job of a lane: of the one that is filled, or of the next."""
+        job = self.other if self.other and self.knows(path, lane == self.other.lane) else self.job
+        self.claim(path, lane == job.lane, 'it is about another lane')
+        return job
 
     def claims_job(self, path, at, fields):
         """Claims that a structure is the job's."""
@@ -143,14 +165,19 @@ def pick(prover, path):
     prover.claim(path, path.given(1, 32) == job.lane, 'it picks for another lane')
     prover.claim(path, path.given(2, 32) == index, 'it picks for another index')
     prover.claim(path, path.given(3) == prover.drawn(path, index), 'it picks by another word')
-    lane, column = prover.fresh('picked lane', 32), prover.fresh('picked column', 32)
-    path.conditions += facts_of_reference(job, index, lane, column)
-    path.ghosts['lane'], path.ghosts['column'] = lane, column
+    return refer(prover, path, index)
+
+
+def refer(prover, path, index, job=None):
+    """The reference of the block at an index is known from here on."""
+    lane, column, job = prover.fresh('picked lane', 32), prover.fresh('picked column', 32), job or prover.job
+    prove_facts(job.s, job.is_first)
+    path.conditions += facts(job, index, lane, column)
+    path.ghosts |= {f'{job.name}lane': lane, f'{job.name}column': column, f'{job.name}picked': number(1)}
     return lane, column
 
 
-def facts_of_reference(job, index, lane, column):
-    prove_facts(job.s, job.is_first)
+def facts(job, index, lane, column):
     return [z3.ULT(column, 4 * job.length), z3.ULT(lane, job.lanes), z3.Implies(
         slice_of(column, job.length) == job.s, z3.And(lane == job.lane, z3.ULT(column, job.s * job.length + index)))]
 
@@ -165,9 +192,11 @@ def fill_ahead(prover, path):
 
 def fill(prover, path, flag):
     """G of two blocks is written, with the old block if the flag is set (test_machine_code.py): the next block."""
-    job, done, claim = prover.job, path.ghosts['done'], prover.claim
+    claim, is_other = prover.claim, prover.other and 'other blocks' in prover.variables(path.given(2))
+    job = prover.other if is_other else prover.job
+    done, lane, column, picked = (path.ghosts[job.name + name] for name in ('done', 'lane', 'column', 'picked'))
     index = low(done)
-    lane, column = path.ghosts['lane'], path.ghosts['column']
+    claim(path, picked == 1, 'it has not picked the reference')
     claim(path, z3.And(z3.ULE(job.first, done), z3.ULT(done, wide(job.length))), 'it writes behind the segment')
     claim(path, path.given(2) == job.own + (wide(index) << 10), 'it writes another block than the next')
     claim(path, path.given(0) == job.before(index), 'its first block is not the one before')
@@ -175,8 +204,8 @@ def fill(prover, path, flag):
         claim(path, z3.Implies(slice_of(column, job.length) == k, path.given(1) == at),
               f'its second block is not the reference in slice {k}')
     claim(path, flag == z3.If(job.combines(), number(1, 32), number(0, 32)), 'it combines otherwise')
-    path.ghosts['done'] = z3.simplify(done + 1)
-    path.ghosts['memory'] = prover.fresh('memory')
+    path.ghosts |= {f'{job.name}done': z3.simplify(done + 1), f'{job.name}picked': number(0),
+                    'memory': prover.fresh('memory')}
 
 
 FILLS = {'kernel::fill_words': fill_words, 'proved_argon2_fill_ahead': fill_ahead, 'proved_argon2_expect': nothing,
@@ -185,52 +214,55 @@ FILLS = {'kernel::fill_words': fill_words, 'proved_argon2_fill_ahead': fill_ahea
 
 def fill_dependent(prover, path):
     """fill_dependent(expects, beside, lane, first, count, own) fills a stretch whose references depend on blocks."""
-    claims_stretch(prover, path, path.given(3, 32), path.given(4, 32), path.given(5), False)
+    job = prover.of_lane(path, path.given(2, 32))
+    claims_stretch(prover, path, job, path.given(3, 32), path.given(4, 32), path.given(5), False)
 
 
 def reference_positions(prover, path):
     """reference_positions(job, lane, first, out, count) writes the references of a stretch, to the function's own
     frame."""
-    job, first, count = prover.job, path.given(2, 32), path.given(4)
+    job, first, count = prover.of_lane(path, path.given(1, 32)), path.given(2, 32), path.given(4)
     prover.claims_job(path, path.given(0), job.fields())
-    prover.claim(path, path.given(1, 32) == job.lane, 'it takes the references of another lane')
     prover.claim(path, z3.ULE(count, STRETCH), 'it takes too many references')
     prover.forget(path, path.given(3), 8 * STRETCH)
-    path.notes['references'] = path.given(3), first, count
+    path.notes['references'] = path.given(3), first, count, job.lane
 
 
 def write_blocks(prover, path):
     """write_blocks(expects, beside, lane, first, references, count, own) fills a stretch whose references are known:
     those which reference_positions wrote, and nobody changed."""
-    at, first, count = path.notes.pop('references', (None, None, None))
+    at, first, count, lane = path.notes.pop('references', (None, None, None, None))
     if at is None:
         raise Fault('it has no references')
-    same = z3.And(path.given(4) == at, path.given(3, 32) == first, path.given(5) == count)
+    same = z3.And(path.given(2, 32) == lane, path.given(4) == at, path.given(3, 32) == first, path.given(5) == count)
     prover.claim(path, same, 'its references are others')
     region, offset = prover.place(at)
     if any((region, offset + index) in path.memory for index in range(8 * STRETCH)):
         raise Fault('its references were changed')
-    claims_stretch(prover, path, path.given(3, 32), low(path.given(5)), path.given(6), True)
+    job = prover.of_lane(path, path.given(2, 32))
+    claims_stretch(prover, path, job, path.given(3, 32), low(path.given(5)), path.given(6), True)
 
 
-def claims_stretch(prover, path, first, count, own, is_independent):
-    job, claim = prover.job, prover.claim
+def claims_stretch(prover, path, job, first, count, own, is_independent):
+    claim = prover.claim
     prover.claims_job(path, path.given(1), [*job.fields(), *job.pointers()])
     claim(path, path.given(0) == word('expects'), 'it expects something else')
     claim(path, prover.load(path, own, 8) == job.own, 'it fills another segment')
     claim(path, prover.load(path, own + OWN_LENGTH, 8) == wide(job.length), 'it fills a segment of another length')
-    claim(path, path.given(2, 32) == job.lane, 'it fills another lane')
-    claim(path, wide(first) == path.ghosts['done'], 'it goes on at another index')
+    claim(path, wide(first) == path.ghosts[f'{job.name}done'], 'it goes on at another index')
     claim(path, z3.And(z3.ULE(job.first, first), z3.ULE(wide(first) + wide(count), wide(job.length)),
                        z3.ULE(count, STRETCH), count != 0), 'its stretch does not fit', True)
     claim(path, job.is_independent() == is_independent, 'it takes the other kind of segment')
     prover.put(path, own + TALLY, prover.fresh('tally'))
-    path.ghosts['done'] = z3.simplify(wide(first) + wide(count))
+    path.ghosts[f'{job.name}done'] = z3.simplify(wide(first) + wide(count))
 
 
 def clear(prover, path):
-    """memset, of the function's own frame. Nothing is known of these bytes afterwards."""
-    prover.forget(path, path.given(0), path.known(path.given(2)))
+    """memset, of the function's own frame, with zeros."""
+    size = path.known(path.given(2))
+    prover.claim(path, path.given(1, 8) == 0, 'it fills with other bytes than zeros')
+    prover.forget(path, path.given(0), size)
+    prover.put(path, path.given(0), number(0, 8 * size))
 
 
 STRETCHES = {'fill_dependent': fill_dependent, 'reference_positions': reference_positions,
@@ -262,41 +294,64 @@ def prove_pick(code, build, s, is_first):
 
 def prove_dependent(code, build, s, is_first):
     """fill_dependent(expects, beside, lane, first, count, own) fills a stretch whose references depend on blocks."""
-    first, count, expects, own = half('first'), half('count'), word('expects'), word('own')
-    end = wide(first) + wide(count)
-    loop = Loop(lambda path: [(z3.And(z3.ULE(wide(first), path.ghosts['done']), z3.ULT(path.ghosts['done'], end)),
-                               'blocks are left')], lambda path: end - path.ghosts['done'])
-    prover = Segments(code, s, is_first, FILLS, [loop])
-    job, path, prover.beside = prover.job, prover.path, word('beside')
-    path.enter([expects, prover.beside, *(beneath_unknown(value, name) for value, name in (
-        (job.lane, 'lane'), (first, 'first'), (count, 'count'))), own])
-    prover.region(expects, 1)
-    prover.passes_job(prover.beside, JOB_SIZE, [*job.fields(), *(
-        (SLICES + 16 * index, pointer) for index, pointer in enumerate(job.slices))])
-    prover.region(own, OWN_SIZE, (TALLY, OWN_SIZE))
-    prover.put(path, own, job.own)
-    path.ghosts |= {'done': wide(first), 'memory': word('memory'), 'lane': number(0, 32), 'column': number(0, 32)}
-    path.conditions += [z3.ULE(job.first, first), z3.ULE(end, wide(job.length)), z3.ULE(count, STRETCH), count != 0,
-                        z3.Not(job.is_independent())]
-    prover.prove(begin_of(code, 'fill_dependent', build), path, lambda path: prover.claim(
+    prover, count = Segments(code, s, is_first, FILLS), half('count')
+    return prove_stretch(prover, begin_of(code, 'fill_dependent', build), [beneath_unknown(count, 'count')],
+                         wide(count), False)
+
+
+def prove_stretch(prover, begin, passed, count, is_independent):
+    """Proves a function that fills a stretch, which is passed (expects, beside, lane, first, .., own)."""
+    job, path, first = prover.job, prover.path, half('first')
+    end = wide(first) + count
+    prover.loops = [Loop(lambda path: [(z3.And(z3.ULE(wide(first), path.ghosts['done']), z3.ULT(
+        path.ghosts['done'], end)), 'blocks are left')], lambda path: end - path.ghosts['done'])]
+    enter(prover, first, *passed, word('own'))
+    path.conditions += [*fits(job, first, count), job.is_independent() == is_independent]
+    prover.prove(begin, path, lambda path: prover.claim(
         path, path.ghosts['done'] == end, 'it does not fill all blocks'))
     return prover
 
 
+def enter(prover, first, *passed):
+    """Begins a function that is passed (expects, beside, lane, first, ..)."""
+    path, job, expects, prover.beside = prover.path, prover.job, word('expects'), word('beside')
+    path.enter([expects, prover.beside, *(beneath_unknown(value, str(value)) for value in (job.lane, first)), *passed])
+    prover.region(expects, 1)
+    prover.passes_job(prover.beside, JOB_SIZE, [*job.fields(), *(
+        (SLICES + 16 * index, pointer) for index, pointer in enumerate(job.slices))])
+    for one, own in ((job, word('own')), (prover.other, word('other'))):
+        if one:
+            prover.region(own, OWN_SIZE, (TALLY, OWN_SIZE))
+            prover.put(path, own, one.own)
+            path.ghosts |= {f'{one.name}{name}': value for name, value in UNPICKED.items()}
+            path.ghosts |= {f'{one.name}done': wide(first), 'memory': word('memory')}
+
+
+def fits(job, first, count):
+    """A stretch of the segment."""
+    return [z3.ULE(job.first, first), z3.ULE(wide(first) + count, wide(job.length)), z3.ULE(count, STRETCH), count != 0]
+
+
 def prove_segment(code, build, s, is_first):
     """fill_caller_segment(expects, job, lane, three slices, own) fills a lane's segment."""
-    prover = Segments(code, s, is_first, STRETCHES)
-    job = prover.job
-    end = wide(job.length)
-    loop = Loop(lambda path: [(z3.And(z3.ULE(job.first, path.ghosts['done']), z3.ULT(path.ghosts['done'], end)),
-                               'blocks are left')], lambda path: end - path.ghosts['done'])
-    prover.loops = [loop]
-    path, at, size = prover.path, word('job'), prover.wide_product(wide(job.lanes), wide(job.length))
-    others = [job.slices[index] for index in range(4) if index != s]
+    return prove_whole(Segments(code, s, is_first, STRETCHES), begin_of(code, 'fill_caller_segment', build))
+
+
+def prove_whole(prover, begin):
+    """Proves a function that fills segments: of one lane, or also of the next."""
+    job, path, at = prover.job, prover.path, word('job')
+    jobs, end = [job] + [prover.other] * bool(prover.other), wide(job.length)
+
+    def claims(path):
+        return [(z3.And(z3.ULE(job.first, path.ghosts['done']), z3.ULT(path.ghosts['done'], end)), 'blocks are left'),
+                (z3.And(*(path.ghosts[f'{one.name}done'] == path.ghosts['done'] for one in jobs)), 'a lane is behind')]
+    prover.loops = [Loop(claims, lambda path: end - path.ghosts['done'])]
+    size = prover.wide_product(wide(job.lanes), wide(job.length))
+    others = [job.slices[index] for index in range(4) if index != job.s]
     path.enter([word('expects'), at, beneath_unknown(job.lane, 'lane'), *(
-        value for other in others for value in (other, size)), job.own, wide(job.length)])
+        value for other in others for value in (other, size)), *(value for one in jobs for value in (one.own, end))])
     prover.passes_job(at, SLICES, job.fields())
-    path.ghosts['done'] = number(job.first)
-    prover.prove(begin_of(code, 'fill_caller_segment', build), path, lambda end: prover.claim(
-        end, end.ghosts['done'] == wide(job.length), 'it does not fill all blocks'))
+    path.ghosts |= {f'{one.name}done': number(job.first) for one in jobs}
+    prover.prove(begin, path, lambda path: prover.claim(
+        path, z3.And(*(path.ghosts[f'{one.name}done'] == end for one in jobs)), 'it does not fill all blocks'))
     return prover

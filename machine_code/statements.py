@@ -20,7 +20,9 @@ import calls  # noqa: E402
 import clearing  # noqa: E402
 import comparison  # noqa: E402
 import first_blocks  # noqa: E402
+import independent  # noqa: E402
 import order  # noqa: E402
+import pairs  # noqa: E402
 import prehash  # noqa: E402
 import presets  # noqa: E402
 import segments  # noqa: E402
@@ -39,7 +41,11 @@ TABLE = Path(__file__).with_name('covered.txt')
 STATEMENTS = {
     'positions::pick': (segments.prove_pick, segments.CASES),
     'filling::fill_dependent': (segments.prove_dependent, ((0, True),)),
-    'filling::fill_caller_segment': (segments.prove_segment, segments.CASES)}
+    'filling::fill_caller_segment': (segments.prove_segment, segments.CASES),
+    'positions::reference_positions': (independent.prove_references, segments.CASES),
+    'filling::write_blocks': (independent.prove_written, ((0, True),)),
+    'pairs::expected_reference': (pairs.prove_expected, ((0, True), (1, False))),
+    'pairs::fill_caller_pair': (pairs.prove_segments, ((0, True), (1, False), (2, True)))}
 # The statements about byte strings, settings and whole calls: by a function's name, what proves it, and the file.
 MODULES = (blake2b, calls, clearing, comparison, first_blocks, order, prehash, presets, settings, steps, tag,
            variable_length_hash)
@@ -53,9 +59,7 @@ NOT_COVERED = {
     'kernel::first_sum': 'the word by which a fill ahead prefetches',
     **dict.fromkeys(('blake2b::wipe', 'variable_length::wipe_frames', 'stack_wiping::wipe_stack'),
                     'it only clears memory'),
-    **dict.fromkeys(('positions::reference_positions', 'filling::write_blocks', 'pairs::fill_caller_pair',
-                     'pairs::fill_dependent_pair', 'pairs::expected_reference'),
-                    'no statement yet: segments that depend on no block, and pairs of lanes'),
+    'pairs::fill_dependent_pair': 'no statement yet: blocks of two lanes by turns',
     **dict.fromkeys(('jobs::make_stored', 'encoded_hash::head_of', 'letters::is_item', 'letters::three_bytes',
                      'salt_and_hash::read_item', 'salt_and_hash::put_hash', 'placing::put_number'),
                     'no statement yet: the text'),
@@ -80,7 +84,7 @@ def what_covers(name):
     for end in ends:
         if end in STATEMENTS:
             statement, cases = STATEMENTS[end]
-            return f'proved for {len(cases)} of {len(segments.CASES)} slices and passes: segments.py'
+            return f'proved for {len(cases)} of {len(segments.CASES)} slices and passes: {statement.__module__}.py'
         if end in CHECKED:
             return 'checked: test_machine_code.py'
         if end in NOT_COVERED:

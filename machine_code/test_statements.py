@@ -18,11 +18,10 @@ def archive():
     return Code(ARCHIVE)
 
 
-@pytest.mark.parametrize('name', STATEMENTS)
-def test_a_function_is_as_stated(archive, name):
-    for case in STATEMENTS[name][1]:
-        proof = prove(archive, BUILDS[-1], name, *case)
-        assert proof.claims and proof.returns
+@pytest.mark.parametrize('name, case', [(name, case) for name, (_, cases) in STATEMENTS.items() for case in cases])
+def test_a_function_is_as_stated(archive, name, case):
+    proof = prove(archive, BUILDS[-1], name, *case)
+    assert proof.claims and proof.returns
 
 
 @pytest.mark.parametrize('name', STATEMENTS)
