@@ -1,24 +1,12 @@
 """What is common to the statements about the C code (verdict.py): the functions that are outside of each level, what is
 assumed of them, and the end of a path, about which claims are proved."""
 
-import arm64
-import x86
 import z3
 from headers import CODES, HALF, NUMBERS, PLACES, SIZES, TEXT, WORD, prototypes
-from linked import ARM64, X86
+from linked import runs_of
 from symbolic import Run, Write, bits, number, variables
 
-
-class RunOnX86(x86.X86, Run):
-    """The C code uses no vectors but those of SSE."""
-    vectors, words = x86.VECTORS[:x86.OF_VEX], 2
-
-
-class RunOnArm64(arm64.Arm64, Run):
-    """The same code on ARM64."""
-
-
-RUNS = {X86: RunOnX86, ARM64: RunOnArm64}
+RUNS = runs_of(Run)
 JOB, SETTINGS = (SIZES[f'proved_argon2_{name}'] for name in ('job', 'settings'))
 HASH_LENGTH = PLACES['proved_argon2_job']['hash_length']
 INTERRUPTED = 2  # how often a signal may interrupt getrandom

@@ -48,6 +48,12 @@ AHEAD = 'proved_argon2_fill_ahead'
 MULTIPLIES = re.compile(r'v?pmulu?dq |vpmullq |vpmadd52|[us]m(?:ul|la|ls)l2?\tv\d+\.2d')
 
 
+def runs_of(engine):
+    """An engine's runs of the C code, by the numbers of machines."""
+    processors = {X86: x86.OfC, ARM64: arm64.Arm64}
+    return {number: type('Run', (processor, engine), {}) for number, processor in processors.items()}
+
+
 def require(program):
     if not shutil.which(program):
         pytest.skip(f'there is no {program}')

@@ -13,10 +13,8 @@ import math
 import re
 from collections import defaultdict
 
-import arm64
-import x86
 from headers import SIZES, WORD, prototypes
-from linked import ARM64, X86
+from linked import runs_of
 from terms import BITS, MASK, Fault
 
 NUMBER, STACK, RETURN = '', 'stack', 1 << BITS - 1
@@ -259,15 +257,7 @@ def narrowed(word, width):
         if all(name == NUMBER and step <= 1 << width for name, (_, step) in pairs) else mixed(word)
 
 
-class RunOnX86(x86.X86, Run):
-    vectors, words = x86.VECTORS[:x86.OF_VEX], 2
-
-
-class RunOnArm64(arm64.Arm64, Run):
-    pass
-
-
-RUNS = {X86: RunOnX86, ARM64: RunOnArm64}
+RUNS = runs_of(Run)
 
 
 class Regions:

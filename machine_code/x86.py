@@ -73,6 +73,11 @@ class X86:
                 *zip(self.registers[name], self.before[name], cleared[name])][2 if at < OF_VEX else 0:])]
 
 
+class OfC(X86):
+    """The C code uses no vectors but those of SSE."""
+    vectors, words = VECTORS[:OF_VEX], 2
+
+
 def vector(name, size, keeps_rest):
     """The lowest words of a vector. A write keeps the rest or clears it."""
     def write(run, words):
