@@ -44,7 +44,7 @@ STATEMENTS = {
     'filling::fill_caller_segment': (segments.prove_segment, segments.CASES),
     'positions::reference_positions': (independent.prove_references, segments.CASES),
     'filling::write_blocks': (independent.prove_written, ((0, True),)),
-    'pairs::expected_reference': (pairs.prove_expected, ((0, True), (1, False))),
+    'pairs::expected_reference': (pairs.prove_expected, ((0, True), (1, True), (1, False), (2, True))),
     'pairs::fill_caller_pair': (pairs.prove_segments, segments.CASES)}
 # The statements about byte strings, settings and whole calls: by a function's name, what proves it, and the file.
 MODULES = (blake2b, calls, clearing, comparison, first_blocks, order, prehash, presets, settings, steps, tag,
