@@ -23,9 +23,8 @@ MACHINES, SOURCES = ('x86_64', 'aarch64'), TOP / 'bindings/c/src'
 SHARED, ARCHIVE = 'libproved_argon2.so.1.0.0', 'libproved_argon2.a'
 # What the archive is linked into, beside the shared library: libargon2's replacement, Node's addon and the command.
 OTHERS = 'libargon2.so.1', 'proved_argon2.node', 'argon2_tool'
-# Functions of the library that these files do not call, so that they are not linked into them.
-LACKED = dict.fromkeys(('proved_argon2.node', 'argon2_tool'), {
-    'proved_argon2_limits_for', 'proved_argon2_password_renew', 'proved_argon2_hashes_at_once'})
+# Functions of the library that the command does not call, so that they are not linked into it.
+LACKED = {'argon2_tool': {'proved_argon2_limits_for', 'proved_argon2_hashes_at_once'}}
 CHANGED = 'proved_argon2_verify_encoded_with', 'fill', 'proved_driver_compute_kept'  # (in one of these files)
 ON_ARM64 = 6  # (each so many faults is also planted there)
 OWN_BYTES = [f'--redefine-sym={name}=proved_driver_{name}' for name in ('memcpy', 'memmove', 'memset')]
