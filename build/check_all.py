@@ -1,21 +1,4 @@
-"""Checks this library, for whoever trusts nobody. It needs Debian 12 or 13, but neither the network, nor root's rights,
-nor Rattle's toolchain. docs/CHECK.md says what each step shows, and what it does not.
-
-    ./check                       runs all steps
-    ./check --quick               takes a minute: one statement of each kind, vectors, and random hashes
-    ./check --build BUILD         checks the machine code of this build alone, such as x86-64-v3
-    ./check --installed PREFIX    also compares what ./install or a package of Debian put there with release/
-    ./check --library FILE        checks the machine code of a library that you linked yourself, in place of release/
-    ./check --only STEP..         runs these steps
-    ./check --list                prints the steps
-    ./check --install             installs the missing packages of Debian first, as root
-    ./check --allow-skips         does not fail if something was skipped
-    ./check --json                prints one object of JSON in place of lines
-    ./check --results FOLDER      also keeps the results of each part there, in JUnit's form
-
-The exit status is 0 if everything that was asked for was checked, 1 if something is wrong or was skipped, 2 if it
-cannot begin, and 130 if it was stopped.
-"""
+"""Runs the steps of ./check, which says how it is called. docs/CHECK.md says what each step shows."""
 
 import argparse
 import json
@@ -312,8 +295,8 @@ def report(options, results):
 
 def parsed(words):
     """The options."""
-    parser = argparse.ArgumentParser(usage=__doc__, add_help=False)
-    for name in ('list', 'json', 'install', 'allow-skips', 'help'):
+    parser = argparse.ArgumentParser(usage='./check --help prints the options', add_help=False)
+    for name in ('list', 'json', 'install', 'allow-skips'):
         parser.add_argument(f'--{name}', action='store_true')
     for name in ('installed', 'results'):
         parser.add_argument(f'--{name}')
@@ -328,9 +311,6 @@ def parsed(words):
 def main(words):
     options = parsed(words)
     options.installed = options.installed and str(Path(options.installed).resolve())
-    if options.help:
-        print(__doc__)
-        return 0
     steps = [step for step in STEPS if not options.only or step.name in options.only]
     if options.library:
         steps = [step for step in steps if step.name in ('definitions', 'machine-code', 'verdicts')]
