@@ -69,6 +69,7 @@ STEPS = (
          'say, for all inputs', (
              Part('both compression functions', files='machine_code/test_machine_code.py',
                   quick='x86_64/libproved_argon2'),
+             Part('what instructions do', files='machine_code/test_processor.py'),
              Part('what statements say', files='machine_code/test_formulas.py', quick=''),
              Part('segments', files='machine_code/test_statements.py', quick='pick or table', other='as_stated'),
              *(Part(f'byte strings of {build}', files='machine_code/test_byte_strings.py', build=build,
