@@ -71,7 +71,10 @@ STEPS = (
                   quick='x86_64/libproved_argon2'),
              Part('what instructions do', files='machine_code/test_processor.py'),
              Part('what statements say', files='machine_code/test_formulas.py', quick=''),
-             Part('segments', files='machine_code/test_statements.py', quick='pick or table', other='as_stated'),
+             Part('references', files='machine_code/test_statements.py', tests='positions or pairs', quick='pick',
+                  other='as_stated'),
+             Part('segments', files='machine_code/test_statements.py', tests='not (positions or pairs)', quick='table',
+                  other='as_stated'),
              *(Part(f'byte strings of {build}', files='machine_code/test_byte_strings.py', build=build,
                     tests=build, quick='hprime' if build == BUILDS[-1] else None)
                for build in BUILDS))),
