@@ -1,6 +1,7 @@
 """No statement is true because what it assumes is a contradiction. For each, ways through the same code are drawn, from
-its beginning to its end, and of each a state: it meets all that is assumed, takes this way, and is as claimed. SEED of
-the environment, or a printed one, determines what is drawn."""
+its beginning to its end, and of each a state: it meets all that is assumed, takes this way, and is as claimed. With
+CI=full they are drawn anew each time, and otherwise the same; SEED of the environment, or a printed one, determines
+them."""
 
 import os
 import random
@@ -14,7 +15,7 @@ from proving import CLAIM, PRODUCT
 from statements import ARCHIVE, BUILDS, OF_BYTES, STATEMENTS, prove, prove_bytes
 from symbolic import RETURN_ADDRESS
 
-SEED = os.environ.get('SEED') or random.randrange(1 << 32)
+SEED = os.environ.get('SEED') or (random.randrange(1 << 32) if os.environ.get('CI') == 'full' else 1)
 WAYS, TRIES, LONGEST, SIZES = 2, 20, 5000, (1, 2, 4, 8)  # (drawn for each function; instructions; bits of a number)
 # What the functions are of which a proof knows only a few facts.
 MEANINGS = {PRODUCT: lambda one, other: one * other, 'quotient': z3.UDiv, 'remainder': z3.URem}
