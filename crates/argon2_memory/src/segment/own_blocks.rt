@@ -186,8 +186,8 @@ impl Segment {
         self.write_expecting(&ExpectsNothing, index, prev, reference, with_xor, None);
     }
 
-    /// Writes a block as `write` does. It passes on who is told of the next reference, and what
-    /// that depends on.
+    /// Writes a block as `write` does. It also tells `expects` which block
+    /// is read next.
     fn write_expecting<E: Expects>(
         &mut self,
         expects: &E,
