@@ -94,7 +94,7 @@ def library(tmp_path_factory):
     folder, texts = tmp_path_factory.mktemp('made'), instructions()
     (folder / 'made.s').write_text(program(texts), encoding='utf-8')
     subprocess.run(['as', '-o', folder / 'made.o', folder / 'made.s'], check=True)
-    subprocess.run(['ld', '-shared', '-o', folder / 'made.so', folder / 'made.o'], check=True)
+    subprocess.run(['ld', '-shared', '-z', 'noexecstack', '-o', folder / 'made.so', folder / 'made.o'], check=True)
     return ctypes.CDLL(folder / 'made.so'), texts
 
 
