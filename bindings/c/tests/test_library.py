@@ -190,6 +190,9 @@ def test_chooses_on(cpu):
 @needs_qemu
 @pytest.mark.parametrize('cpu,build', [('Haswell', '3 of 3'), ('Nehalem', '2 of 2'), *LACKING])
 def test_takes_the_build_for(cpu, build):
+    # The C library of Debian 13 compares strings by BMI1 if there is AVX2, and so ends on this emulated processor.
+    if 'bmi1' in cpu and [*map(int, os.confstr('CS_GNU_LIBC_VERSION').split()[1].split('.'))] > [2, 36]:
+        pytest.skip('this C library needs BMI1')
     assert build_by(cpu, TESTS / 'builds') == build
 
 
