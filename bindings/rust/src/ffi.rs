@@ -188,7 +188,7 @@ unsafe impl Send for Buffers {}
 unsafe impl Sync for Buffers {}
 
 impl Buffers {
-    /// A handle for at most this many buffers, or as many as the library allows, each large enough for these settings.
+    /// Makes a handle for this many buffers, or as many as the library allows. Each is large enough for these settings.
     pub fn new(settings: &Settings, most: usize) -> Buffers {
         let (mut handle, most) = (null_mut(), u32::try_from(most).map_or(MAX_BUFFERS, |most| most.min(MAX_BUFFERS)));
         // SAFETY: the library reads the settings, and writes to a variable of this function.
